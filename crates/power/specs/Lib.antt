@@ -1,0 +1,4 @@
+pub mod Board
+pub mod Promise
+pub mod Aim
+pub mod Tables

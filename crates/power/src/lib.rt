@@ -1,0 +1,71 @@
+// The board, whoever uses it, the keeper of its power, and the days between.
+ghost use mathlib.Core.Path.{_≡_};
+ghost use mathlib.Core.Bool.{true, false};
+ghost use Prim.Native.Nat.{ℕ, _+_, _<_, _≤_};
+ghost use lib.ListN.{length, getD};
+ghost use lib.Dec.{T};
+ghost use Rattle.power.specs.Board.{Board, MayRaise, MayLower, MayLevel, Tries, raised, lowered, levelled, isRising, onOf, leastOf, mostOf, why, called, mayTell, told, inTime, ticked, AtStart};
+ghost use Rattle.power.specs.Promise.{LeastServes, LeastIsLeast, MoreIsMore, CannotBe};
+
+pub mod types;
+
+// Users 0 to 31, parts 0 to 63, levels 1 to 15.
+#[derive(Clone, Copy)]
+pub enum Call { Want(u32, u32, u32), Give(u32) }
+
+#[derive(Clone, Copy)]
+pub enum Answer { Done, No(u32) }
+
+#[derive(Clone, Copy)]
+pub enum Next { Calls(Call), Tick, Over }
+
+// What may be done to the board. What it requires is its data sheet, and that nobody loses what they were granted.
+pub trait Parts {
+    ghost board: { Self → Board };
+
+    fn parts(&self) -> u32
+        ensures { λ r. ⌜ r ≡ board (now (self .entry)) .parts ⌝ };
+    // how many others it needs; the kth of these, what that must be at least when it is at level l, and at most
+    fn needs(&self, x: u32) -> u32
+        ensures { λ r. ⌜ r ≡ length (board (now (self .entry)) .needs x) ⌝ };
+    fn need_on(&self, x: u32, k: u32) -> u32
+        requires { ⌜ k < length (board (now self) .needs x) ⌝ }
+        ensures { λ r. ⌜ r ≡ onOf k (board (now (self .entry)) .needs x) ⌝ };
+    fn need_least(&self, x: u32, k: u32, l: u32) -> u32
+        requires { ⌜ k < length (board (now self) .needs x) ⌝ ∗ ⌜ l < 16 ⌝ }
+        ensures { λ r. ⌜ r ≡ leastOf k l (board (now (self .entry)) .needs x) ⌝ };
+    fn need_most(&self, x: u32, k: u32) -> u32
+        requires { ⌜ k < length (board (now self) .needs x) ⌝ }
+        ensures { λ r. ⌜ r ≡ mostOf k (board (now (self .entry)) .needs x) ⌝ };
+
+    // it begins to rise; is it good yet; it's off; it's at another level
+    fn raise(&mut self, x: u32)
+        requires { ⌜ MayRaise (board (now self)) x ⌝ }
+        ensures { λ _. ⌜ board (now (self .exit)) ≡ raised x (board (now (self .entry))) ⌝ };
+    fn good(&mut self, x: u32) -> bool
+        requires { ⌜ 0 < board (now self) .left ⌝ ∗ ⌜ x < board (now self) .parts ⌝ ∗ ⌜ T (isRising (board (now self) .part x)) ⌝ }
+        ensures { λ r. ⌜ Tries (board (now (self .entry))) x r (board (now (self .exit))) ⌝ };
+    fn lower(&mut self, x: u32)
+        requires { ⌜ MayLower (board (now self)) x ⌝ }
+        ensures { λ _. ⌜ board (now (self .exit)) ≡ lowered x (board (now (self .entry))) ⌝ };
+    fn level(&mut self, x: u32, v: u32)
+        requires { ⌜ MayLevel (board (now self)) x v ⌝ }
+        ensures { λ _. ⌜ board (now (self .exit)) ≡ levelled x v (board (now (self .entry))) ⌝ };
+}
+
+// Who uses it, which the keeper doesn't see.
+pub trait World: Parts {
+    fn next(&mut self) -> Next
+        ensures { λ _. ⌜ board (now (self .exit)) ≡ board (now (self .entry)) ⌝ };
+    // the call is taken, or turned away by a number
+    fn said(&mut self, c: Call, no: u32)
+        requires { ⌜ no ≡ why c (board (now self)) ⌝ }
+        ensures { λ _. ⌜ board (now (self .exit)) ≡ called c (board (now (self .entry))) ⌝ };
+    // a user is told: what may be, that's the promise
+    fn told(&mut self, u: u32, a: Answer)
+        requires { ⌜ T (mayTell (board (now self)) u a) ⌝ }
+        ensures { λ _. ⌜ board (now (self .exit)) ≡ told u a (board (now (self .entry))) ⌝ };
+    fn ticks(&mut self)
+        requires { ⌜ T (inTime (board (now self))) ⌝ }
+        ensures { λ _. ⌜ board (now (self .exit)) ≡ ticked (board (now (self .entry))) ⌝ };
+}
