@@ -1,0 +1,4 @@
+pub mod Boards
+pub mod Paces
+pub mod Plans
+pub mod Starts
