@@ -29,12 +29,12 @@ grown-none w k = rw (le-ltb k 0 (omega arith))
 pub grown-put : (u : ℕ) (w : ℕ → Wish) (v : Wish) (f : ℕ → Wish) → v ≡ older (w u) → ((k : ℕ) → f k ≡ grown u w k) → (k : ℕ) → put u v f k ≡ grown (u + 1) w k
 grown-put u w v f e h k =
     ⊎-elim
-      (λ q. rw (eq-eqb k u q, lt-ltb k (u + 1) (omega (arith, q))) (e ∙ ap (λ j. older (w j)) (sym q)))
-      (λ n. ⊎-elim
-        (λ (l : k < u). rw (ne-eqb k u n, lt-ltb k (u + 1) (omega arith)) (h k ∙ rw (lt-ltb k u l)))
-        (λ (g : u ≤ k). rw (ne-eqb k u n, le-ltb k (u + 1) (below k u n g)) (h k ∙ rw (le-ltb k u g)))
-        (cases-lt k u))
-      (cases-eq k u)
+    (λ q. rw (eq-eqb k u q, lt-ltb k (u + 1) (omega (arith, q))) (e ∙ ap (λ j. older (w j)) (sym q)))
+    (λ n. ⊎-elim
+    (λ (l : k < u). rw (ne-eqb k u n, lt-ltb k (u + 1) (omega arith)) (h k ∙ rw (lt-ltb k u l)))
+    (λ (g : u ≤ k). rw (ne-eqb k u n, le-ltb k (u + 1) (below k u n g)) (h k ∙ rw (le-ltb k u g)))
+    (cases-lt k u))
+    (cases-eq k u)
   where
     below : (k u : ℕ) → (k ≡ u → ⊥) → u ≤ k → u + 1 ≤ k
     below k u n g = omega arith

@@ -47,4 +47,4 @@ tells-need ps x k d e h =
     let t = tells-map (take (p .count) (p .needs)) k e l in
     let w : getD (take (p .count) (p .needs)) k e ≡ getD (p .needs) k e = getD-take (p .count) (p .needs) k e c in
     subst (λ (ns : List Need). Tells (needOf (getD (p .needs) k e)) k ns) (sym (needs-at ps x d (listed ps x k h)))
-      (subst (λ (m : PlanNeed). Tells (needOf m) k (needsOf p)) w t)
+    (subst (λ (m : PlanNeed). Tells (needOf m) k (needsOf p)) w t)

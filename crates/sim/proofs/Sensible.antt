@@ -36,18 +36,19 @@ pub every-none : (f : ℕ → Bool) → every 0 f ≡ true
 unfolding every
 every-none f = refl
 
-pub every-more : (f : ℕ → Bool) (u : ℕ) → every u f ≡ true → f u ≡ true → every (u + 1) f ≡ true
+pub every-more : (f : ℕ → Bool) (u : ℕ) → every u f ≡ true → true ≡ f u → every (u + 1) f ≡ true
 unfolding every
-every-more f u e h = rw (add-one, e, h)
+every-more f u e h = rw (add-one, e) (sym h)
 
 -- and stops where it doesn't
-pub every-false : (n : ℕ) (f : ℕ → Bool) (k : ℕ) → k < n → f k ≡ false → false ≡ every n f
+pub every-false : (n : ℕ) (f : ℕ → Bool) (k : ℕ) → k < n → false ≡ f k → false ≡ every n f
 unfolding every
 every-false zero f k h e = absurd (omega arith)
 every-false (suc n) f k h e =
     elim (cases-eq k n) [
-      inl q ↦ rw (sym (ap f q) ∙ e) (sym (and-false (every n f)))
-    | inr d ↦ rw (sym (every-false n f k (omega arith) e)) ]
+      | inl q ↦ rw (sym (e ∙ ap f q)) (sym (and-false (every n f)))
+      | inr d ↦ rw (sym (every-false n f k (omega arith) e))
+    ]
 
 -- the first of them first
 every-front : (n : ℕ) (f : ℕ → Bool) → every (suc n) f ≡ (f 0 && every n (λ k. f (suc k)))

@@ -22,10 +22,10 @@ module _ (s : Sim) (x : ℕ) where
       → Tries (boardOf s) x true (withParts (λ y. partOf (getD (set (s .states) x (state.On l)) y state.Off)) (boardOf s .tried) (boardOf s))
   now-good l e h r =
       subst (λ (p : ℕ → Part). Tries (boardOf s) x true (withParts p (boardOf s .tried) (boardOf s)))
-        (sym (set-put partOf state.Off (state.On l) (s .states) x h ∙ ap (λ (n : ℕ). put x (On n) (boardOf s .part)) e)) (good r)
+      (sym (set-put partOf state.Off (state.On l) (s .states) x h ∙ ap (λ (n : ℕ). put x (On n) (boardOf s .part)) e)) (good r)
 
   pub not-yet : (t : ℕ) → x < length (s .tried) → t ≡ cond (ltb (getD (s .tried) x 0) 64) (getD (s .tried) x 0 + 1) 64 → T (isRising (partOf (getD (s .states) x state.Off)))
       → Tries (boardOf s) x false (withParts (boardOf s .part) (λ y. getD (set (s .tried) x t) y 0) (boardOf s))
   not-yet t h e r =
       subst (λ (p : ℕ → ℕ). Tries (boardOf s) x false (withParts (boardOf s .part) p (boardOf s))) (sym (set-put (λ (n : ℕ). n) 0 t (s .tried) x h))
-        (subst (λ (u : ℕ). Tries (boardOf s) x false (withParts (boardOf s .part) (put x u (boardOf s .tried)) (boardOf s))) (sym e) (notYet r))
+      (subst (λ (u : ℕ). Tries (boardOf s) x false (withParts (boardOf s .part) (put x u (boardOf s .tried)) (boardOf s))) (sym e) (notYet r))

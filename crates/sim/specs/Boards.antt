@@ -21,8 +21,15 @@ wishOf (wanted.Granted x l) = Granted (x .n) (l .n)
 
 abbrev pub boardOf : Sim → Board
 boardOf s =
-    record { parts = s .plan .parts; needs = needsAt (s .plan .part); part = λ x. partOf (getD (s .states) x state.Off); tried = λ x. getD (s .tried) x 0;
-      wish = λ u. wishOf (getD (s .wishes) u wanted.Nothing); quiet = s .quiet; left = s .left }
+    record {
+      parts = s .plan .parts;
+      needs = needsAt (s .plan .part);
+      part = λ x. partOf (getD (s .states) x state.Off);
+      tried = λ x. getD (s .tried) x 0;
+      wish = λ u. wishOf (getD (s .wishes) u wanted.Nothing);
+      quiet = s .quiet;
+      left = s .left;
+    }
 
 -- every part is tried anew
 abbrev pub anew : Board → Board

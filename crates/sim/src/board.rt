@@ -7,13 +7,13 @@ ghost use mathlib.Core.Bool.{cond};
 ghost use Rattle.power.specs.Board.{Board, MayRaise, MayLower, MayLevel, Tries, raised, lowered, levelled, isRising};
 ghost use Rattle.sim.specs.Boards.{boardOf};
 ghost use Rattle.sim.specs.Paces.{paceOf, nextPace, ready, waited, SamePaces};
-use power::Parts;
-use power::types::Level;
 use super::pace::after_asking;
 use super::pace::is_ready;
 use super::pace::one_more;
 use super::state::PartState;
 use super::state::Sim;
+use power::Parts;
+use power::types::Level;
 
 pub impl Parts for Sim as SimParts {
     ghost board = { boardOf };

@@ -16,8 +16,15 @@ impl PlanPart {
     pub fn none() -> PlanPart
         ensures { λ r. ⌜ needsOf r ≡ [] ⌝ }
     {
-        let nothing = PlanNeed { on: 0, least: [0; 16], most: 0 };
-        PlanPart { count: 0, needs: [nothing; 4] }
+        let nothing = PlanNeed {
+            on: 0,
+            least: [0; 16],
+            most: 0,
+        };
+        PlanPart {
+            count: 0,
+            needs: [nothing; 4],
+        }
     }
 
     // One need more, or a refusal where there are four.
@@ -38,14 +45,21 @@ impl Plan {
     pub fn none() -> Plan
         ensures { λ r. ⌜ r .parts ≡ 0 ⌝ }
     {
-        Plan { parts: 0, part: [PlanPart::none(); 64] }
+        Plan {
+            parts: 0,
+            part: [PlanPart::none(); 64],
+        }
     }
 
     // How many others part x needs.
     pub fn needs(&self, x: u32) -> u32
         ensures { λ r. ⌜ r ≡ length (needsAt (now (self .entry) .part) x) ⌝ }
     {
-        if x < 64 { self.part[x as usize].count } else { 0 }
+        if x < 64 {
+            self.part[x as usize].count
+        } else {
+            0
+        }
     }
 
     // The kth of these.

@@ -2,9 +2,9 @@
 ghost use mathlib.Core.Path.{_≡_};
 ghost use Prim.Native.Nat.{_≤_};
 ghost use lib.ListN.{length};
+use super::plan::Plan;
 use power::types::Level;
 use power::types::PartId;
-use super::plan::Plan;
 
 // A part is off, rising, or on at a level.
 #[derive(Clone, Copy)]

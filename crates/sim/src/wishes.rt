@@ -6,8 +6,8 @@ ghost use lib.ListN.{getD, length};
 ghost use Rattle.power.specs.Board.{toldOf, older, young, isAsked, some'};
 ghost use Rattle.sim.specs.declared.state.Wanted.the-variants.{Nothing};
 ghost use Rattle.sim.specs.Boards.{wishOf};
-use power::Answer;
 use super::state::Wanted;
+use power::Answer;
 
 impl Wanted {
     // What's left of it when its user is told something.

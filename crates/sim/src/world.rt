@@ -5,16 +5,16 @@ ghost use lib.Dec.{T};
 ghost use Rattle.power.specs.Board.{withWish, isSix, why, called, mayTell, told, inTime, ticked};
 ghost use Rattle.sim.specs.Boards.{boardOf, wishOf, anew};
 ghost use Rattle.sim.specs.Paces.{SamePaces};
+use super::board::SimParts;
+use super::state::Sim;
+use super::state::Wanted;
+use super::wishes::let_tick_pass;
 use power::Answer;
 use power::Call;
 use power::Next;
 use power::World;
 use power::types::Level;
 use power::types::PartId;
-use super::board::SimParts;
-use super::state::Sim;
-use super::state::Wanted;
-use super::wishes::let_tick_pass;
 
 // After a 6 every rising part is tried anew.
 fn is_six(a: Answer) -> bool
@@ -58,7 +58,10 @@ pub impl World for Sim as SimWorld {
             return;
         }
         match c {
-            Call::Want(u, x, l) => self.set_wish(u, Wanted::Asked(PartId { n: x }, Level { n: l }, 0)),
+            Call::Want(u, x, l) => self.set_wish(
+                u,
+                Wanted::Asked(PartId { n: x }, Level { n: l }, 0),
+            ),
             Call::Give(u) => self.set_wish(u, Wanted::Nothing),
         }
     }
@@ -81,7 +84,13 @@ pub impl World for Sim as SimWorld {
         ensures paces { λ _. ⌜ SamePaces (now (self .entry)) (now (self .exit)) ⌝ }
     {
         let waiting = let_tick_pass(&mut self.wishes);
-        self.quiet = if waiting { 0 } else if self.quiet < 64 { self.quiet + 1 } else { 64 };
+        self.quiet = if waiting {
+            0
+        } else if self.quiet < 64 {
+            self.quiet + 1
+        } else {
+            64
+        };
         self.left = 1024;
     }
 }

@@ -10,12 +10,12 @@ pub loop-i-holds : need.loop-i-holds
 loop-i-holds c = every-none (isNew (c .args .part .now .needs))
 
 pub loop-i-again : need.loop-i-again
-loop-i-again c = every-more (isNew (c .args .part .now .needs)) (c .loop-i .i) (c .loop-i .inv) (sym (c .if-not-is-new .ensures tt))
+loop-i-again c = every-more (isNew (c .args .part .now .needs)) (c .loop-i .i) (c .loop-i .inv) (c .if-not-is-new .ensures tt)
 
 pub returns-then-not-is-new : need.returns-then-not-is-new
 returns-then-not-is-new c =
     let p = c .args .part .now in
-    every-false (p .count) (isNew (p .needs)) (c .loop-i .i) (omega arith) (sym (c .if-not-is-new .ensures tt)) ∙ sym (apart-first (p .count) (p .needs) (omega arith))
+    every-false (p .count) (isNew (p .needs)) (c .loop-i .i) (omega arith) (c .if-not-is-new .ensures tt) ∙ sym (apart-first (p .count) (p .needs) (omega arith))
 
 pub returns : need.returns
 returns c =

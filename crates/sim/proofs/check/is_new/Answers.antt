@@ -26,7 +26,7 @@ loop-j-again c =
     let a = ap (λ (n : PlanNeed). n .on) (getD-default ns i noNeed (c .index-part-i .result) hi) in
     let b = ap (λ (n : PlanNeed). n .on) (getD-default ns j noNeed (c .index-part-j .result) hj) in
     every-more (λ k. not (eqb (getD ns i noNeed .on) (getD ns k noNeed .on))) j (c .loop-j .inv)
-      (ap not (ne-eqb (getD ns i noNeed .on) (getD ns j noNeed .on) (λ e. c .if-this-other .left (sym a ∙ e ∙ b))))
+    (sym (ap not (ne-eqb (getD ns i noNeed .on) (getD ns j noNeed .on) (λ e. c .if-this-other .left (sym a ∙ e ∙ b)))))
 
 pub returns-then-this-other : need.returns-then-this-other
 returns-then-this-other c =
@@ -38,7 +38,7 @@ returns-then-this-other c =
     let a = ap (λ (n : PlanNeed). n .on) (getD-default ns i noNeed (c .index-part-i .result) hi) in
     let b = ap (λ (n : PlanNeed). n .on) (getD-default ns j noNeed (c .index-part-j .result) hj) in
     every-false i (λ k. not (eqb (getD ns i noNeed .on) (getD ns k noNeed .on))) j (omega arith)
-      (ap not (eq-eqb (getD ns i noNeed .on) (getD ns j noNeed .on) (a ∙ c .if-this-other .taken ∙ sym b)))
+    (sym (ap not (eq-eqb (getD ns i noNeed .on) (getD ns j noNeed .on) (a ∙ c .if-this-other .taken ∙ sym b))))
 
 pub returns : need.returns
 returns c =

@@ -1,11 +1,12 @@
 -- Each turn tests one more need.
-use mathlib.Core.Path.{_≡_, ap, sym, _∙_}
-use mathlib.Core.Bool.{Bool}
+use mathlib.Core.Path.{_≡_, ap, subst, sym, _∙_}
+use mathlib.Core.Bool.{Bool, true, false}
 use Prim.Native.Nat.{ℕ, _<_}
 use native.Mathlib.Omega.{arith}
 use lib.ListN.{length, getD}
 use Rattle.std.proofs.shelf.Lists.{getD-default}
 use Rattle.power.specs.Board.{every, goodNeed}
+use Rattle.sim.specs.declared.plan.PlanNeed.{PlanNeed}
 use Rattle.sim.specs.Plans.{needOf, noNeed}
 use Rattle.sim.proofs.Sensible.{every-none, every-more, every-false, all-first}
 use Rattle.sim.proofs.check.needs_make_sense.Needs as need
@@ -19,14 +20,14 @@ loop-k-again c =
     let k = c .loop-k .k in
     let h : k < length ns = omega arith in
     every-more (λ j. goodNeed (c .args .x) (needOf (getD ns j noNeed))) k (c .loop-k .inv)
-      (ap (λ n. goodNeed (c .args .x) (needOf n)) (getD-default ns k noNeed (c .index-part-k .result) h) ∙ sym (c .if-not-need-makes-sense .ensures tt))
+    (subst (λ (n : PlanNeed). true ≡ goodNeed (c .args .x) (needOf n)) (getD-default ns k (c .index-part-k .result) noNeed h) (c .if-not-need-makes-sense .ensures tt))
 
 pub returns-then-not-need-makes-sense : need.returns-then-not-need-makes-sense
 returns-then-not-need-makes-sense c =
     let p = c .args .part .now in
     let k = c .loop-k .k in
     let h : k < length (p .needs) = omega arith in
-    let e = ap (λ n. goodNeed (c .args .x) (needOf n)) (getD-default (p .needs) k noNeed (c .index-part-k .result) h) ∙ sym (c .if-not-need-makes-sense .ensures tt) in
+    let e = subst (λ (n : PlanNeed). false ≡ goodNeed (c .args .x) (needOf n)) (getD-default (p .needs) k (c .index-part-k .result) noNeed h) (c .if-not-need-makes-sense .ensures tt) in
     every-false (p .count) (λ j. goodNeed (c .args .x) (needOf (getD (p .needs) j noNeed))) k (omega arith) e ∙ sym (all-first (goodNeed (c .args .x)) (p .count) (p .needs) (omega arith))
 
 pub returns : need.returns

@@ -17,8 +17,8 @@ loop-i-again c = every-more (steps (c .args .least .now)) (c .loop-i .i) (c .loo
 pub returns-then-least-i : need.returns-then-least-i
 returns-then-least-i c =
     let xs = c .args .least .now in
-    let no : steps xs (c .loop-i .i) ≡ false = grind (arith, tells) in
-    every-false 15 (steps xs) (c .loop-i .i) (omega arith) no ∙ sym (rising-by xs 15 (omega arith))
+    let down : false ≡ steps xs (c .loop-i .i) = grind (arith, tells) in
+    every-false 15 (steps xs) (c .loop-i .i) (omega arith) down ∙ sym (rising-by xs 15 (omega arith))
 
 pub returns : need.returns
 returns c =

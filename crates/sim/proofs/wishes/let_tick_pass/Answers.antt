@@ -25,14 +25,16 @@ loop-u-again c =
     let i = c .loop-u .inv in
     let h : u < length (c .loop-u .wishes) = omega (arith, i .0) in
     let here : wishOf (getD (c .loop-u .wishes) u (c .index-wishes-u .result)) ≡ w u =
-        ap wishOf (getD-default (c .loop-u .wishes) u (c .index-wishes-u .result) Nothing h) ∙ i .2 u ∙ grown-here u w in
-    let is : c .is-asked .result ≡ f u = c .is-asked .ensures ∙ ap isAsked here in
-    (rw length-set (i .0),
-     some-more f u (c .if-is-asked .waiting)
-       (elim (c .if-is-asked .came)
-         [ then-is-asked t ↦ t .waiting-is ∙ or-true (some' u f) (f u) (sym is ∙ t .if-is-asked .taken)
-         | else-is-asked t ↦ t .waiting-is ∙ i .1 ∙ or-false (some' u f) (f u) (sym is ∙ t .if-is-asked .left) ]),
-     grown-more (c .loop-u .wishes) u w (c .a-tick-older .result) (omega (arith, i .0)) (c .a-tick-older .ensures ∙ ap older here) (i .2))
+    ap wishOf (getD-default (c .loop-u .wishes) u (c .index-wishes-u .result) Nothing h) ∙ i .2 u ∙ grown-here u w in
+    let is : c .is-asked .result ≡ f u = c .is-asked .ensures ∙ ap isAsked here in (
+      rw length-set (i .0),
+      some-more f u (c .if-is-asked .waiting)
+          (elim (c .if-is-asked .came) [
+            | then-is-asked t ↦ t .waiting-is ∙ or-true (some' u f) (f u) (sym is ∙ t .if-is-asked .taken)
+            | else-is-asked t ↦ t .waiting-is ∙ i .1 ∙ or-false (some' u f) (f u) (sym is ∙ t .if-is-asked .left)
+          ]),
+      grown-more (c .loop-u .wishes) u w (c .a-tick-older .result) (omega (arith, i .0)) (c .a-tick-older .ensures ∙ ap older here) (i .2),
+    )
 
 pub a-tick-older-requires : need.a-tick-older-requires
 a-tick-older-requires c κs =
@@ -44,5 +46,8 @@ pub returns : need.returns
 returns c =
     let e : c .loop-u .u ≡ 32 = omega arith in
     let w : ℕ → Wish = λ k. wishOf (getD (c .args .wishes .now) k Nothing) in
-    record { asked = c .loop-u .inv .1 ∙ ap (λ n. some' n (λ k. isAsked (w k))) e; long = c .loop-u .inv .0;
-      each = λ k. c .loop-u .inv .2 k ∙ grown-all (c .args .wishes .now) (c .loop-u .u) (omega arith) k }
+    record {
+      asked = c .loop-u .inv .1 ∙ ap (λ n. some' n (λ k. isAsked (w k))) e;
+      long = c .loop-u .inv .0;
+      each = λ k. c .loop-u .inv .2 k ∙ grown-all (c .args .wishes .now) (c .loop-u .u) (omega arith) k;
+    }

@@ -13,4 +13,5 @@ pub returns : need.returns
 returns c =
     record {
       does = not-yet (c .args .self .now) (c .args .x) (c .one-more .result) (omega arith) (c .one-more .ensures) (c .pre .1 .1);
-      paces = (c .if-is-ready .ensures tt, ap (set (c .args .self .now .pace) (c .args .x)) (c .after-asking .ensures), refl) }
+      paces = (c .if-is-ready .ensures tt, ap (set (c .args .self .now .pace) (c .args .x)) (c .after-asking .ensures), refl);
+    }

@@ -11,4 +11,5 @@ returns c =
     let b = boardOf (c .args .self .now) in
     record {
       does = ap (λ (t : ℕ → ℕ). record { parts = b .parts; needs = b .needs; part = b .part; tried = t; wish = b .wish; quiet = b .quiet; left = b .left }) (fun-ext (all-same 64 0));
-      paces = (refl, refl) }
+      paces = (refl, refl);
+    }
