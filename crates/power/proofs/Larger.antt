@@ -1,13 +1,13 @@
 -- The larger of two numbers, the most of many, what's granted, and one want more: each by its bounds. Assumes nothing.
 use mathlib.Core.Path.{_≡_, refl, sym, ap, subst, _∙_}
-use mathlib.Core.Logic.{inl, inr}
-use mathlib.Core.Bool.{cond}
+use mathlib.Core.Logic.{_⊎_, inl, inr}
 use Prim.Native.Nat.{ℕ, zero, suc, _<_, _≤_}
 use native.Mathlib.Omega.{arith}
 use native.Mathlib.Nat.{not-suc-le-zero}
 use borrow.Author.Tests.{eq-eqb, ltb-true, ltb-false, eqb-true, eqb-false}
 use lib.Dec.{eqb, ltb}
 use Rattle.std.proofs.shelf.Tests.{cases-lt, cond-both, cond-true}
+use Rattle.std.proofs.shelf.Ways.{tells}
 use Rattle.power.specs.Board.{Board, Wish, None', Asked, Granted, larger, most, wantOf, granted, andAlso}
 
 pub larger-l : (a b : ℕ) → a ≤ larger a b
@@ -18,6 +18,10 @@ larger-r a b = cond-both (ltb a b) b a (λ (x : ℕ). b ≤ x) (λ e. omega arit
 
 pub larger-le : (a b c : ℕ) → a ≤ c → b ≤ c → larger a b ≤ c
 larger-le a b c h k = cond-both (ltb a b) b a (λ (x : ℕ). x ≤ c) (λ e. k) (λ e. h)
+
+-- it's one of them
+pub larger-one : (a b : ℕ) → (larger a b ≡ a) ⊎ (larger a b ≡ b)
+larger-one a b = cond-both (ltb a b) b a (λ (x : ℕ). (x ≡ a) ⊎ (x ≡ b)) (λ e. inr refl) (λ e. inl refl)
 
 pub most-at : (n : ℕ) (f : ℕ → ℕ) (u : ℕ) → u < n → f u ≤ most n f
 unfolding most
@@ -60,3 +64,14 @@ and-also-more f x l y = cond-both (eqb y x) (larger l (f y)) (f y) (λ (z : ℕ)
 
 pub and-also-this : (f : ℕ → ℕ) (x l : ℕ) → l ≤ andAlso f x l x
 and-also-this f x l = cond-both (eqb x x) (larger l (f x)) (f x) (λ (z : ℕ). l ≤ z) (λ e. larger-l l (f x)) (λ e. absurd (eqb-false x x e refl))
+
+pub and-also-le : (f : ℕ → ℕ) (x l y c : ℕ) → f y ≤ c → (x ≡ y → l ≤ c) → andAlso f x l y ≤ c
+and-also-le f x l y c h q =
+    cond-both (eqb y x) (larger l (f y)) (f y) (λ (z : ℕ). z ≤ c) (λ e. larger-le l (f y) c (q (sym (eqb-true y x e))) h) (λ e. h)
+
+-- what was wanted, and x at l alone, together
+pub and-also-both : (f : ℕ → ℕ) (x l y : ℕ) → andAlso f x l y ≡ larger (f y) (andAlso (λ (z : ℕ). 0) x l y)
+and-also-both f x l y = grind (arith, tells)
+
+pub and-also-alone : (f : ℕ → ℕ) (x l y : ℕ) → andAlso (λ (z : ℕ). 0) x l y ≤ andAlso f x l y
+and-also-alone f x l y = omega (arith, and-also-both f x l y, larger-r (f y) (andAlso (λ (z : ℕ). 0) x l y))

@@ -1,3 +1,11 @@
 pub mod Tests
 pub mod Plans
 pub mod Larger
+pub mod Asked
+pub mod Plain
+pub mod Lowest
+pub mod Joined
+pub mod Pushing
+pub mod Sweeping
+pub mod Fitted
+pub mod Aiming

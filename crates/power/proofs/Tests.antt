@@ -1,6 +1,6 @@
 -- The board's tests as plain facts: `&&`, `||`, `every`, `some'` and `all`, one way and back.
 -- A test of each need is stated by index, in the words of the trait `Parts`. Assumes nothing.
-use mathlib.Core.Path.{_≡_, subst}
+use mathlib.Core.Path.{_≡_, refl, subst}
 use mathlib.Core.Logic.{_⊎_, inl, inr}
 use mathlib.Core.Bool.{Bool, true, false, _&&_, _||_, not}
 use mathlib.Core.List.{List, [], _∷_}
@@ -118,3 +118,12 @@ pub all-of : (g : ℕ → (ℕ → ℕ) → ℕ → Bool) (ns : List Need) →
 unfolding all onOf leastOf mostOf
 all-of g [] f = tt
 all-of g (n ∷ ns) f = and-i (g (n .on) (λ (l : ℕ). leastAt n l) (n .most)) _ (f 0 (omega arith)) (all-of g ns (λ k h. f (suc k) (omega arith)))
+
+-- a test's value, from what it says
+pub is-true : (x : Bool) → T x → true ≡ x
+is-true true t = refl
+is-true false t = absurd t
+
+pub is-false : (x : Bool) → (T x → ⊥) → false ≡ x
+is-false true f = absurd (f tt)
+is-false false f = refl

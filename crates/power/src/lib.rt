@@ -7,6 +7,10 @@ ghost use lib.Dec.{T};
 ghost use Rattle.power.specs.Board.{Board, MayRaise, MayLower, MayLevel, Tries, raised, lowered, levelled, isRising, onOf, leastOf, mostOf, why, called, mayTell, told, inTime, ticked, AtStart};
 ghost use Rattle.power.specs.Promise.{LeastServes, LeastIsLeast, MoreIsMore, CannotBe};
 
+pub mod aims;
+pub mod least;
+pub mod levels;
+pub mod theorems;
 pub mod types;
 
 // Users 0 to 31, parts 0 to 63, levels 1 to 15.
@@ -68,4 +72,17 @@ pub trait World: Parts {
     fn ticks(&mut self)
         requires { ⌜ T (inTime (board (now self))) ⌝ }
         ensures { λ _. ⌜ board (now (self .exit)) ≡ ticked (board (now (self .entry))) ⌝ };
+}
+
+// What is promised beside, each a theorem that a contract names.
+pub fn least_serves() -> u8
+    ensures { λ _. ⌜ LeastServes ⌝ ∗ ⌜ LeastIsLeast ⌝ }
+{
+    0
+}
+
+pub fn more_is_more() -> u8
+    ensures { λ _. ⌜ MoreIsMore ⌝ ∗ ⌜ CannotBe ⌝ }
+{
+    0
 }

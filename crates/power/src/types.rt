@@ -31,3 +31,14 @@ pub struct Levels {
     pub of: [u32; 64],
     ghost long: { length of ≡ 64 },
 }
+
+// Levels to aim at: no part higher than the ceiling, none lower than the goal.
+#[derive(Drop)]
+pub struct Aims {
+    pub ceiling: Levels,
+    pub goal: Levels,
+}
+
+// What is wanted can't be: a level above 15, or above what a part that needs it allows.
+#[derive(Clone, Copy)]
+pub struct CantBe;
