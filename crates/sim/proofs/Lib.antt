@@ -1,6 +1,7 @@
 pub mod Aging
 pub mod Called
 pub mod Fresh
+pub mod Granting
 pub mod Listed
 pub mod Paced
 pub mod Puts

@@ -2,6 +2,7 @@
 pub mod board;
 pub mod build;
 mod check;
+pub mod least;
 pub mod pace;
 pub mod plan;
 mod start;

@@ -1,7 +1,10 @@
 // What a board in memory holds.
+ghost use mathlib.Core.Bool.{true};
 ghost use mathlib.Core.Path.{_≡_};
 ghost use Prim.Native.Nat.{_≤_};
 ghost use lib.ListN.{length};
+ghost use Rattle.power.specs.Board.{goodPlan};
+ghost use Rattle.sim.specs.Plans.{boardFor};
 use super::plan::Plan;
 use power::types::Level;
 use power::types::PartId;
@@ -29,7 +32,7 @@ pub enum Wanted {
     Granted(PartId, Level),
 }
 
-// `pace` is in effect since a part was raised last, `next_pace` from its next raising on.
+// The plan makes sense. `pace` is in effect since a part was raised last, `next_pace` from its next raising on.
 #[derive(Drop)]
 pub struct Sim {
     pub plan: Plan,
@@ -40,5 +43,6 @@ pub struct Sim {
     pub left: u32,
     pub pace: [Pace; 64],
     pub next_pace: [Pace; 64],
+    ghost sensible: { goodPlan (boardFor plan) ≡ true },
     ghost sized: { (length states ≡ 64) × (length tried ≡ 64) × (length wishes ≡ 32) × (length pace ≡ 64) × (length «next_pace» ≡ 64) },
 }
