@@ -8,10 +8,21 @@ ghost use Rattle.power.specs.Board.{Board, MayRaise, MayLower, MayLevel, Tries
 ghost use Rattle.power.specs.Promise.{LeastServes, LeastIsLeast, MoreIsMore, CannotBe};
 
 pub mod aims;
+mod askings;
+mod course;
+mod down;
+mod driver;
+mod grants;
 pub mod least;
 pub mod levels;
+mod mirror;
+mod rota;
+pub mod state;
 pub mod theorems;
+pub mod theorems_walk;
 pub mod types;
+mod up;
+mod wishes;
 
 // Users 0 to 31, parts 0 to 63, levels 1 to 15.
 #[derive(Clone, Copy)]

@@ -1,0 +1,5 @@
+// Plans and scripts from any source of lines, played on boards in memory.
+pub mod draft;
+pub mod play;
+pub mod reader;
+pub mod stage;

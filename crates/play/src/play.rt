@@ -1,0 +1,107 @@
+// Plays an input: plans, each with its script.
+use super::draft::Draft;
+use super::draft::Step;
+use super::reader::Input;
+use super::reader::Reader;
+use super::stage::Stage;
+use super::stage::StageParts;
+use super::stage::StageWorld;
+use power::Next;
+use power::World;
+use script::event::Event;
+use script::event::Say;
+use script::line::Line;
+use script::lines::Lines;
+use sim::state::Sim;
+
+// How reading a plan ended.
+#[derive(Drop)]
+enum Planned {
+    Board(Sim),
+    NoPlan,
+    Ended,
+}
+
+fn whole(draft: &Draft) -> Planned {
+    match draft.board() {
+        Some(sim) => Planned::Board(sim),
+        None => Planned::NoPlan,
+    }
+}
+
+// The plan up to its `run`.
+fn read_plan<L: Lines + Drop, S: Say>(reader: &mut Reader<L>, out: &mut S) -> Planned {
+    let mut draft = Draft::new();
+    for _ in 0..u64::MAX {
+        let step = match reader.next() {
+            Input::Says(line) => draft.heed(line),
+            Input::Unclear => Step::Unclear,
+            Input::Ended => return Planned::Ended,
+        };
+        match step {
+            Step::More => {}
+            Step::Whole => return whole(&draft),
+            Step::Unclear => out.say(Event::NoLine(reader.number())),
+        }
+    }
+    Planned::Ended
+}
+
+fn is_new(line: Line) -> bool {
+    match line {
+        Line::New => true,
+        _ => false,
+    }
+}
+
+// Passes over all lines up to the next `new`; whether there is one.
+fn skip_to_new<L: Lines + Drop>(reader: &mut Reader<L>) -> bool {
+    for _ in 0..u64::MAX {
+        match reader.next() {
+            Input::Says(line) => {
+                if is_new(line) {
+                    return true;
+                }
+            }
+            Input::Unclear => {}
+            Input::Ended => return false,
+        }
+    }
+    false
+}
+
+// Plays a script on a board; whether another plan follows.
+fn run<L: Lines + Drop, S: Say>(sim: Sim, reader: &mut Reader<L>, out: &mut S) -> bool {
+    let mut stage = Stage {
+        sim,
+        reader,
+        out,
+        ticks: 0,
+        renewed: false,
+    };
+    for _ in 0..u64::MAX {
+        match stage.next() {
+            Next::Calls(_) => stage.unclear(),
+            Next::Tick => {}
+            Next::Over => break,
+        }
+    }
+    stage.renewed
+}
+
+// Plays an input to its end.
+pub fn play<L: Lines + Drop, S: Say>(reader: &mut Reader<L>, out: &mut S) {
+    for _ in 0..u64::MAX {
+        let more = match read_plan(reader, out) {
+            Planned::Board(sim) => run(sim, reader, out),
+            Planned::NoPlan => {
+                out.say(Event::NoPlan);
+                skip_to_new(reader)
+            }
+            Planned::Ended => false,
+        };
+        if !more {
+            return;
+        }
+    }
+}

@@ -1,0 +1,5 @@
+mod Counted
+mod Levelling
+mod Listed
+mod Ended
+mod Spaced

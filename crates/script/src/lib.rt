@@ -1,0 +1,13 @@
+// The text of plans and scripts: what a line says, and what is printed. It uses no heap.
+pub mod buffer;
+pub mod event;
+pub mod line;
+pub mod lines;
+pub mod needs;
+pub mod numbers;
+pub mod printer;
+pub mod read;
+pub mod row;
+pub mod sheet;
+pub mod words;
+pub mod write;

@@ -1,0 +1,92 @@
+// What is told, written into lent memory.
+ghost use mathlib.Core.Path.{_≡_};
+ghost use mathlib.Core.Bool.{true, false};
+ghost use mathlib.Core.List.{[], _∷_, _++_};
+ghost use Prim.Native.Nat.{_+_, _≤_, _<_};
+ghost use lib.ListN.{length, take};
+ghost use Rattle.std.specs.Orderings.{When};
+ghost use Rattle.script.specs.Events.{printed};
+use super::event::Event;
+use super::event::Say;
+use super::write::event_line;
+use super::write::put_at;
+use super::write::row_of;
+
+// The first `len` bytes are written. Where a line had no room, that and all that follow are left out.
+#[derive(Drop)]
+pub struct Sheet<'a> {
+    text: &'a mut [u8],
+    len: usize,
+    full: bool,
+}
+
+impl<'a> Sheet<'a> {
+    // An empty sheet.
+    pub fn new(text: &'a mut [u8]) -> Sheet<'a>
+        ensures { λ r. ⌜ (r .len ≡ 0) × (r .full ≡ false) ⌝ }
+    {
+        Sheet {
+            text,
+            len: 0,
+            full: false,
+        }
+    }
+
+    // How many bytes are written.
+    pub fn len(&self) -> usize
+        ensures { λ r. ⌜ r ≡ now (self .entry) .len ⌝ }
+    {
+        self.len
+    }
+
+    // Whether something had no room.
+    pub fn is_full(&self) -> bool
+        ensures { λ r. ⌜ r ≡ now (self .entry) .full ⌝ }
+    {
+        self.full
+    }
+
+    // Bytes at the end, all of them or none.
+    fn put(&mut self, bytes: &[u8])
+        ensures { λ _. ⌜ When (now (self .exit) .full) ((now (self .exit) .len ≡ now (self .entry) .len) × (now (now (self .exit) .text) ≡ now (now (self .entry) .text))) (take (now (self .exit) .len) (now (now (self .exit) .text)) ≡ take (now (self .entry) .len) (now (now (self .entry) .text)) ++ now (bytes .entry)) ⌝ }
+    {
+        if self.full {
+            return;
+        }
+        if self.len > self.text.len() || bytes.len() > self.text.len() - self.len {
+            self.full = true;
+            return;
+        }
+        let at = self.len;
+        put_at(self.text, at, bytes);
+        self.len += bytes.len();
+    }
+}
+
+pub impl Say for Sheet<'_> as SheetSay {
+    fn say(&mut self, event: Event)
+        ensures { λ _. ⌜ When (now (self .exit) .full) ((now (self .exit) .len ≡ now (self .entry) .len) × (now (now (self .exit) .text) ≡ now (now (self .entry) .text))) (take (now (self .exit) .len) (now (now (self .exit) .text)) ≡ take (now (self .entry) .len) (now (now (self .entry) .text)) ++ (printed event ++ 10 ∷ [])) ⌝ }
+    {
+        match event_line(event) {
+            Some(row) => self.put(row.text()),
+            None => self.full = true,
+        }
+    }
+
+    fn say_levels(&mut self, levels: &[u32]) {
+        let start = self.len;
+        for (i, level) in levels.iter().enumerate() {
+            if i > 0 {
+                self.put(b" ");
+            }
+            match row_of(*level) {
+                Some(row) => self.put(row.text()),
+                None => self.full = true,
+            }
+        }
+        self.put(b"\n");
+        if self.full {
+            self.len = start;
+        }
+    }
+}
