@@ -30,10 +30,10 @@ fn whole(draft: &Draft) -> Planned {
 }
 
 // The plan up to its `run`.
-fn read_plan<L: Lines + Drop, S: Say>(reader: &mut Reader<L>, out: &mut S) -> Planned {
+fn read_plan<L: Lines, S: Say>(lines: &mut L, reader: &mut Reader, out: &mut S) -> Planned {
     let mut draft = Draft::new();
     for _ in 0..u64::MAX {
-        let step = match reader.next() {
+        let step = match reader.next(lines) {
             Input::Says(line) => draft.heed(line),
             Input::Unclear => Step::Unclear,
             Input::Ended => return Planned::Ended,
@@ -55,9 +55,9 @@ fn is_new(line: Line) -> bool {
 }
 
 // Passes over all lines up to the next `new`; whether there is one.
-fn skip_to_new<L: Lines + Drop>(reader: &mut Reader<L>) -> bool {
+fn skip_to_new<L: Lines>(lines: &mut L, reader: &mut Reader) -> bool {
     for _ in 0..u64::MAX {
-        match reader.next() {
+        match reader.next(lines) {
             Input::Says(line) => {
                 if is_new(line) {
                     return true;
@@ -71,9 +71,10 @@ fn skip_to_new<L: Lines + Drop>(reader: &mut Reader<L>) -> bool {
 }
 
 // Plays a script on a board; whether another plan follows.
-fn run<L: Lines + Drop, S: Say>(sim: Sim, reader: &mut Reader<L>, out: &mut S) -> bool {
+fn run<L: Lines, S: Say>(sim: Sim, lines: &mut L, reader: &mut Reader, out: &mut S) -> bool {
     let mut stage = Stage {
         sim,
+        lines,
         reader,
         out,
         ticks: 0,
@@ -90,13 +91,14 @@ fn run<L: Lines + Drop, S: Say>(sim: Sim, reader: &mut Reader<L>, out: &mut S) -
 }
 
 // Plays an input to its end.
-pub fn play<L: Lines + Drop, S: Say>(reader: &mut Reader<L>, out: &mut S) {
+pub fn play<L: Lines, S: Say>(lines: &mut L, out: &mut S) {
+    let mut reader = Reader::new();
     for _ in 0..u64::MAX {
-        let more = match read_plan(reader, out) {
-            Planned::Board(sim) => run(sim, reader, out),
+        let more = match read_plan(lines, &mut reader, out) {
+            Planned::Board(sim) => run(sim, lines, &mut reader, out),
             Planned::NoPlan => {
                 out.say(Event::NoPlan);
-                skip_to_new(reader)
+                skip_to_new(lines, &mut reader)
             }
             Planned::Ended => false,
         };

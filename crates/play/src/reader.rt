@@ -14,27 +14,23 @@ pub enum Input {
     Ended,
 }
 
-// Where lines come from, room for one of them, and how many were read.
+// Room for a line, and how many were read.
 #[derive(Drop)]
-pub struct Reader<L> {
-    lines: L,
+pub struct Reader {
     line: LineBuffer,
     number: u64,
 }
 
-impl<L: Lines + Drop> Reader<L> {
-    pub fn new(lines: L) -> Reader<L>
-        ensures { λ r. ⌜ (r .lines ≡ lines) × (r .number ≡ 0) ⌝ }
+impl Reader {
+    pub fn new() -> Reader
+        ensures { λ r. ⌜ r .number ≡ 0 ⌝ }
     {
-        Reader {
-            lines,
-            line: LineBuffer::new(),
-            number: 0,
-        }
+        Reader { line: LineBuffer::new(), number: 0 }
     }
 
-    pub fn next(&mut self) -> Input {
-        if !self.lines.next_line(&mut self.line) {
+    // The next line of these.
+    pub fn next<L: Lines>(&mut self, lines: &mut L) -> Input {
+        if !lines.next_line(&mut self.line) {
             return Input::Ended;
         }
         self.number = self.number.saturating_add(1);
@@ -52,12 +48,5 @@ impl<L: Lines + Drop> Reader<L> {
         ensures { λ r. ⌜ r ≡ now (self .entry) .number ⌝ }
     {
         self.number
-    }
-
-    // Where the lines come from, when no more are read.
-    pub fn source(&self) -> &L
-        ensures { λ r. ⌜ now r ≡ now (self .entry) .lines ⌝ }
-    {
-        &self.lines
     }
 }

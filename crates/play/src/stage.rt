@@ -19,15 +19,16 @@ use sim::world::SimWorld;
 
 // `ticks` are still to come before the next line; `renewed` says that the script ended with `new`.
 #[derive(Drop)]
-pub struct Stage<'a, 'b, L, S> {
+pub struct Stage<'a, 'b, 'c, L, S> {
     pub sim: Sim,
-    pub reader: &'a mut Reader<L>,
-    pub out: &'b mut S,
+    pub lines: &'a mut L,
+    pub reader: &'b mut Reader,
+    pub out: &'c mut S,
     pub ticks: u32,
     pub renewed: bool,
 }
 
-impl<L: Lines + Drop, S: Say> Stage<'_, '_, L, S> {
+impl<L: Lines, S: Say> Stage<'_, '_, '_, L, S> {
     // The last line is no line here.
     pub(crate) fn unclear(&mut self)
         ensures { λ _. ⌜ (now (self .exit) .sim ≡ now (self .entry) .sim) × (now (self .exit) .ticks ≡ now (self .entry) .ticks) × (now (self .exit) .renewed ≡ now (self .entry) .renewed) ⌝ }
@@ -75,7 +76,7 @@ impl<L: Lines + Drop, S: Say> Stage<'_, '_, L, S> {
     }
 }
 
-pub impl<L: Lines + Drop, S: Say> Parts for Stage<'_, '_, L, S> as StageParts {
+pub impl<L: Lines, S: Say> Parts for Stage<'_, '_, '_, L, S> as StageParts {
     ghost board = { λ s. boardOf (s .sim) };
 
     fn parts(&self) -> u32 {
@@ -122,14 +123,14 @@ pub impl<L: Lines + Drop, S: Say> Parts for Stage<'_, '_, L, S> as StageParts {
     }
 }
 
-pub impl<L: Lines + Drop, S: Say> World for Stage<'_, '_, L, S> as StageWorld {
+pub impl<L: Lines, S: Say> World for Stage<'_, '_, '_, L, S> as StageWorld {
     fn next(&mut self) -> Next {
         if self.ticks > 0 {
             self.ticks -= 1;
             return Next::Tick;
         }
         for _ in 0..u64::MAX {
-            match self.reader.next() {
+            match self.reader.next(self.lines) {
                 Input::Ended => return Next::Over,
                 Input::Unclear => self.unclear(),
                 Input::Says(line) => {
