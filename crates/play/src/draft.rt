@@ -38,11 +38,11 @@ impl Draft {
         ensures { λ _. ⌜ Added x part (now (self .entry)) (now (self .exit)) ⌝ }
     {
         if x != self.plan.parts {
-            self.spoilt = true;
+            self.spoil();
             return;
         }
         if self.plan.add(part).is_err() {
-            self.spoilt = true;
+            self.spoil();
         }
     }
 

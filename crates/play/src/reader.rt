@@ -1,6 +1,9 @@
 // The lines of an input, one after another, with their numbers.
 ghost use mathlib.Core.Path.{_≡_};
-ghost use Prim.Native.Nat.{_+_, _≤_, _^_};
+ghost use mathlib.Core.List.{List};
+ghost use Prim.Native.Nat.{ℕ};
+ghost use Rattle.script.specs.Sources.{Buffered};
+ghost use Rattle.play.specs.Inputs.{numberAfter, Reads};
 use script::buffer::LineBuffer;
 use script::line::Line;
 use script::lines::Lines;
@@ -25,11 +28,17 @@ impl Reader {
     pub fn new() -> Reader
         ensures { λ r. ⌜ r .number ≡ 0 ⌝ }
     {
-        Reader { line: LineBuffer::new(), number: 0 }
+        Reader {
+            line: LineBuffer::new(),
+            number: 0,
+        }
     }
 
     // The next line of these.
-    pub fn next<L: Lines>(&mut self, lines: &mut L) -> Input {
+    pub fn next<L: Lines>(&mut self, lines: &mut L) -> Input
+        ensures counts { λ r. ⌜ now (self .exit) .number ≡ numberAfter r (now (self .entry) .number) ⌝ }
+        ensures reads { λ r. ⌜ ((bs : List ℕ) → Buffered (now (self .exit) .line) bs → Reads bs r) ⌝ }
+    {
         if !lines.next_line(&mut self.line) {
             return Input::Ended;
         }
