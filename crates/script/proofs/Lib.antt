@@ -1,5 +1,7 @@
 mod Counted
+mod Formed
 mod Levelling
 mod Listed
 mod Ended
+mod Printed
 mod Spaced

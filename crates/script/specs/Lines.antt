@@ -130,6 +130,11 @@ abbrev pub userLine : ℕ → List (List ℕ) → Option Said
 userLine u [] = None
 userLine u (w ∷ ws) = cond (sameBytes w (codes "give")) (only (give u) ws) (cond (sameBytes w (codes "want")) (withNumber (λ x. withNumber (λ l. only (want u x l))) ws) None)
 
+-- a number is a user's
+abbrev pub userOf : Option ℕ → First
+userOf None = first.Unknown
+userOf (Some u) = first.User u
+
 -- what a line begins with
 abbrev pub firstOf : List ℕ → First
 firstOf w =
@@ -141,10 +146,6 @@ firstOf w =
     (cond (sameBytes w (codes "slow")) first.Slow
     (cond (sameBytes w (codes "least")) first.Least
     (userOf (numberOf w))))))))
-  where
-    userOf : Option ℕ → First
-    userOf None = first.Unknown
-    userOf (Some u) = first.User u
 
 -- what the words after that say
 abbrev pub restOf : First → List (List ℕ) → Option Said

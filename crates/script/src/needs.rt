@@ -19,6 +19,11 @@ use super::words::number;
 use sim::plan::PlanNeed;
 use sim::plan::PlanPart;
 
+// The highest level that a plan can hold, and how many it can hold for a need.
+const TOP: u32 = 15;
+
+const MOST_LEVELS: usize = 15;
+
 // The levels that were read, from level 1 on, if a plan can hold them.
 #[derive(Clone, Copy)]
 pub struct Levels {
@@ -59,11 +64,11 @@ impl Levels {
     fn push(&mut self, level: u32)
         ensures { λ _. ⌜ ((ls : List ℕ) → Levelled (now (self .entry)) ls → Levelled (now (self .exit)) (ls ++ level ∷ [])) ⌝ }
     {
-        if level > 15 {
+        if level > TOP {
             self.fits = false;
             return;
         }
-        if self.count >= 15 {
+        if self.count >= MOST_LEVELS {
             self.fits = false;
             return;
         }
@@ -75,7 +80,7 @@ impl Levels {
     fn need(self, on: u32, most: u32) -> Option<PlanNeed>
         ensures { λ r. ⌜ ((ls : List ℕ) → Levelled self ls → Needed r (record { on = on; levels = ls; most = most })) ⌝ }
     {
-        if self.fits && most <= 15 {
+        if self.fits && most <= TOP {
             let least = self.least;
             return Some(PlanNeed { on, least, most });
         }

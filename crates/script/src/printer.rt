@@ -1,12 +1,16 @@
 // What is told, printed: through a buffer, so that a line costs no call of the system.
 ghost use mathlib.Core.Path.{_≡_};
+ghost use mathlib.Core.List.{[], _∷_, _++_};
 ghost use Prim.Native.Nat.{_+_, _≤_, _<_};
-ghost use lib.ListN.{length};
+ghost use lib.ListN.{length, take};
+ghost use Rattle.std.specs.Orderings.{When};
+ghost use Rattle.script.specs.Events.{printed, spaced};
+ghost use Rattle.script.specs.Sheets.{Waits};
 use super::event::Event;
 use super::event::Say;
 use super::write::event_line;
+use super::write::levels_line;
 use super::write::put_at;
-use super::write::row_of;
 use std::io::Write;
 
 // `failed` says that something could not be printed; nothing is printed after that.
@@ -51,7 +55,10 @@ impl<'a, W: Write> Printer<'a, W> {
         }
     }
 
-    fn put(&mut self, bytes: &[u8]) {
+    // Bytes at the end of what waits, or after that was printed.
+    fn put(&mut self, bytes: &[u8])
+        ensures { λ _. ⌜ When (now (self .exit) .failed) (Unit {0}) (Waits (take (now (self .entry) .len) (now (self .entry) .buffer)) (now (bytes .entry)) (take (now (self .exit) .len) (now (self .exit) .buffer))) ⌝ }
+    {
         if bytes.len() > 4096 - self.len {
             self.flush();
         }
@@ -73,23 +80,21 @@ fn write_front<W: Write>(out: &mut W, bytes: &[u8], len: usize) -> bool
 }
 
 pub impl<W: Write> Say for Printer<'_, W> as PrinterSay {
-    fn say(&mut self, event: Event) {
+    fn say(&mut self, event: Event)
+        ensures { λ _. ⌜ When (now (self .exit) .failed) (Unit {0}) (Waits (take (now (self .entry) .len) (now (self .entry) .buffer)) (printed event ++ 10 ∷ []) (take (now (self .exit) .len) (now (self .exit) .buffer))) ⌝ }
+    {
         match event_line(event) {
             Some(row) => self.put(row.text()),
             None => self.failed = true,
         }
     }
 
-    fn say_levels(&mut self, levels: &[u32]) {
-        for (i, level) in levels.iter().enumerate() {
-            if i > 0 {
-                self.put(b" ");
-            }
-            match row_of(*level) {
-                Some(row) => self.put(row.text()),
-                None => self.failed = true,
-            }
+    fn say_levels(&mut self, levels: &[u32])
+        ensures { λ _. ⌜ When (now (self .exit) .failed) (Unit {0}) (Waits (take (now (self .entry) .len) (now (self .entry) .buffer)) (spaced (now (levels .entry)) ++ 10 ∷ []) (take (now (self .exit) .len) (now (self .exit) .buffer))) ⌝ }
+    {
+        match levels_line(levels) {
+            Some(row) => self.put(row.text()),
+            None => self.failed = true,
         }
-        self.put(b"\n");
     }
 }

@@ -1,6 +1,7 @@
 // Lines are read word by word.
 ghost use mathlib.Core.Path.{_≡_};
 ghost use Rattle.script.specs.Text.{wordsOf};
+ghost use Rattle.script.specs.Forms.{ReadsBack};
 ghost use Rattle.script.specs.Lines.{firstOf, heard, lineOf, only, partLine, saidOf, slowLine, userLine, withNumber, tick, bad, want};
 use super::line::First;
 use super::line::Line;
@@ -32,6 +33,13 @@ pub fn read_line(text: &[u8]) -> Result<Line, NoLine>
         First::User(user) => by_user(user, words),
         First::Unknown => Err(NoLine::UnknownWord),
     }
+}
+
+// Whatever can be written is read as what it means.
+pub fn lines_read_back() -> u8
+    ensures { λ _. ⌜ ReadsBack ⌝ }
+{
+    0
 }
 
 fn first(word: &[u8]) -> First

@@ -1,4 +1,4 @@
-// A short text in memory of its own.
+// A line to be printed, in memory of its own: long enough for the levels of 64 parts.
 ghost use mathlib.Core.Path.{_≡_};
 ghost use Prim.Native.Nat.{_≤_};
 ghost use lib.ListN.{length};
@@ -6,8 +6,8 @@ ghost use lib.ListN.{length};
 // The first `len` of these bytes.
 #[derive(Clone, Copy)]
 pub struct Row {
-    pub bytes: [u8; 64],
+    pub bytes: [u8; 1024],
     pub len: usize,
-    ghost within: { len ≤ 64 },
-    ghost long: { length bytes ≡ 64 },
+    ghost within: { len ≤ 1024 },
+    ghost long: { length bytes ≡ 1024 },
 }

@@ -3,14 +3,14 @@ ghost use mathlib.Core.Path.{_≡_};
 ghost use mathlib.Core.Bool.{true, false};
 ghost use mathlib.Core.List.{[], _∷_, _++_};
 ghost use Prim.Native.Nat.{_+_, _≤_, _<_};
-ghost use lib.ListN.{length, take};
-ghost use Rattle.std.specs.Orderings.{When};
-ghost use Rattle.script.specs.Events.{printed};
+ghost use lib.ListN.{length};
+ghost use Rattle.script.specs.Events.{printed, spaced};
+ghost use Rattle.script.specs.Sheets.{Added};
 use super::event::Event;
 use super::event::Say;
 use super::write::event_line;
+use super::write::levels_line;
 use super::write::put_at;
-use super::write::row_of;
 
 // The first `len` bytes are written. Where a line had no room, that and all that follow are left out.
 #[derive(Drop)]
@@ -48,7 +48,8 @@ impl<'a> Sheet<'a> {
 
     // Bytes at the end, all of them or none.
     fn put(&mut self, bytes: &[u8])
-        ensures { λ _. ⌜ When (now (self .exit) .full) ((now (self .exit) .len ≡ now (self .entry) .len) × (now (now (self .exit) .text) ≡ now (now (self .entry) .text))) (take (now (self .exit) .len) (now (now (self .exit) .text)) ≡ take (now (self .entry) .len) (now (now (self .entry) .text)) ++ now (bytes .entry)) ⌝ }
+        ensures { λ _. ⌜ Added (now (self .entry)) (now (self .exit)) (now (bytes .entry)) ⌝ }
+        ensures { λ _. ⌜ (now (self .entry) .full ≡ false → now (self .entry) .len + length (now (bytes .entry)) ≤ length (now (now (self .entry) .text)) → now (self .exit) .full ≡ false) ⌝ }
     {
         if self.full {
             return;
@@ -65,7 +66,7 @@ impl<'a> Sheet<'a> {
 
 pub impl Say for Sheet<'_> as SheetSay {
     fn say(&mut self, event: Event)
-        ensures { λ _. ⌜ When (now (self .exit) .full) ((now (self .exit) .len ≡ now (self .entry) .len) × (now (now (self .exit) .text) ≡ now (now (self .entry) .text))) (take (now (self .exit) .len) (now (now (self .exit) .text)) ≡ take (now (self .entry) .len) (now (now (self .entry) .text)) ++ (printed event ++ 10 ∷ [])) ⌝ }
+        ensures { λ _. ⌜ Added (now (self .entry)) (now (self .exit)) (printed event ++ 10 ∷ []) ⌝ }
     {
         match event_line(event) {
             Some(row) => self.put(row.text()),
@@ -73,20 +74,12 @@ pub impl Say for Sheet<'_> as SheetSay {
         }
     }
 
-    fn say_levels(&mut self, levels: &[u32]) {
-        let start = self.len;
-        for (i, level) in levels.iter().enumerate() {
-            if i > 0 {
-                self.put(b" ");
-            }
-            match row_of(*level) {
-                Some(row) => self.put(row.text()),
-                None => self.full = true,
-            }
-        }
-        self.put(b"\n");
-        if self.full {
-            self.len = start;
+    fn say_levels(&mut self, levels: &[u32])
+        ensures { λ _. ⌜ Added (now (self .entry)) (now (self .exit)) (spaced (now (levels .entry)) ++ 10 ∷ []) ⌝ }
+    {
+        match levels_line(levels) {
+            Some(row) => self.put(row.text()),
+            None => self.full = true,
         }
     }
 }

@@ -66,14 +66,14 @@ fn word_len(text: &[u8]) -> usize
 }
 
 // Whether a word is this one.
-pub fn is_word(word: &[u8], name: &[u8]) -> bool
+pub(crate) fn is_word(word: &[u8], name: &[u8]) -> bool
     ensures { λ r. ⌜ r ≡ sameBytes (now (word .entry)) (now (name .entry)) ⌝ }
 {
     word == name
 }
 
 // The number that comes next.
-pub fn number(words: &mut Words<'_>) -> Result<u32, NoLine>
+pub(crate) fn number(words: &mut Words<'_>) -> Result<u32, NoLine>
     ensures { λ r. ⌜ Either r (λ n. Began n (wordsOf (now (now (words .entry) .rest))) (wordsOf (now (now (words .exit) .rest))) × (length (now (now (words .exit) .rest)) < length (now (now (words .entry) .rest)))) (λ _. Lacks (wordsOf (now (now (words .entry) .rest)))) ⌝ }
 {
     match words.next() {
@@ -86,7 +86,7 @@ pub fn number(words: &mut Words<'_>) -> Result<u32, NoLine>
 }
 
 // Passes over this word.
-pub fn keyword(words: &mut Words<'_>, name: &[u8]) -> Result<(), NoLine>
+pub(crate) fn keyword(words: &mut Words<'_>, name: &[u8]) -> Result<(), NoLine>
     ensures { λ r. ⌜ Either r (λ _. (w : List ℕ) × (wordsOf (now (now (words .entry) .rest)) ≡ w ∷ wordsOf (now (now (words .exit) .rest))) × (sameBytes w (now (name .entry)) ≡ true) × (length (now (now (words .exit) .rest)) < length (now (now (words .entry) .rest)))) (λ _. Misses (now (name .entry)) (wordsOf (now (now (words .entry) .rest)))) ⌝ }
 {
     match words.next() {

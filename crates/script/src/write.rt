@@ -1,12 +1,13 @@
 // Values are written as text into fixed memory.
 ghost use mathlib.Core.Path.{_≡_};
-ghost use mathlib.Core.Bool.{true, false};
+ghost use mathlib.Core.Bool.{true, false, cond};
 ghost use mathlib.Core.List.{[], _∷_, _++_};
 ghost use Prim.Native.Nat.{_+_, _≤_, _<_};
 ghost use lib.ListN.{length, take, drop};
 ghost use Rattle.std.specs.Options.{Cases};
 ghost use Rattle.std.specs.Orderings.{When};
-ghost use Rattle.script.specs.Events.{printed};
+ghost use Rattle.std.specs.Written.{decimal};
+ghost use Rattle.script.specs.Events.{printed, spaced};
 ghost use Rattle.script.specs.Rows.{rowText};
 use super::event::Event;
 use super::event::EventDisplay;
@@ -29,16 +30,16 @@ impl Row {
         ensures { λ r. ⌜ rowText r ≡ [] ⌝ }
     {
         Row {
-            bytes: [0; 64],
+            bytes: [0; 1024],
             len: 0,
         }
     }
 
     // Bytes at the end, if there is room.
     pub fn push(&mut self, bytes: &[u8]) -> bool
-        ensures { λ r. ⌜ When r (rowText (now (self .exit)) ≡ rowText (now (self .entry)) ++ now (bytes .entry)) ((now (self .exit) ≡ now (self .entry)) × (64 < now (self .entry) .len + length (now (bytes .entry)))) ⌝ }
+        ensures { λ r. ⌜ When r (rowText (now (self .exit)) ≡ rowText (now (self .entry)) ++ now (bytes .entry)) ((now (self .exit) ≡ now (self .entry)) × (1024 < now (self .entry) .len + length (now (bytes .entry)))) ⌝ }
     {
-        if bytes.len() > 64 - self.len {
+        if bytes.len() > 1024 - self.len {
             return false;
         }
         put_at(&mut self.bytes, self.len, bytes);
@@ -81,6 +82,38 @@ pub fn row_of<D: fmt::Display + Drop>(value: D) -> Option<Row>
 pub fn event_line(event: Event) -> Option<Row>
     ensures { λ r. ⌜ Cases r (Unit {0}) (λ row. rowText row ≡ printed event ++ 10 ∷ []) ⌝ }
 {
-    let mut row = row_of(event)?;
+    ended(row_of(event)?)
+}
+
+// The line of levels, with single spaces between them.
+pub fn levels_line(levels: &[u32]) -> Option<Row>
+    ensures { λ r. ⌜ Cases r (Unit {0}) (λ row. rowText row ≡ spaced (now (levels .entry)) ++ 10 ∷ []) ⌝ }
+{
+    let mut row = Row::empty();
+    for (i, level) in levels.iter().enumerate() {
+        row = with_level(row, i > 0, *level)?;
+    }
+    ended(row)
+}
+
+// One level more, after a space or as the first.
+fn with_level(mut row: Row, after: bool, level: u32) -> Option<Row>
+    ensures { λ r. ⌜ Cases r (Unit {0}) (λ more. rowText more ≡ rowText row ++ (cond after (32 ∷ []) [] ++ decimal level)) ⌝ }
+{
+    if after && !row.push(b" ") {
+        return None;
+    }
+    let number = row_of(level)?;
+    if row.push(number.text()) {
+        Some(row)
+    } else {
+        None
+    }
+}
+
+// The line with its end.
+fn ended(mut row: Row) -> Option<Row>
+    ensures { λ r. ⌜ Cases r (Unit {0}) (λ line. rowText line ≡ rowText row ++ 10 ∷ []) ⌝ }
+{
     if row.push(b"\n") { Some(row) } else { None }
 }

@@ -1,0 +1,28 @@
+//! The keeper of a board's power, called from Rust, and what it is tested and measured with.
+//!
+//! - [`play`] plays a whole input text and gives back what the program `buoy` would print;
+//! - [`rules`] judges such an output by the board's data sheet and the promises;
+//! - [`cases`] makes plans and scripts, random and hostile;
+//! - [`plain`] is another keeper with the same rules, unproved, to compare with;
+//! - [`trial`] plays a case, judges it and compares it.
+
+pub mod cases;
+pub mod plain;
+pub mod rng;
+pub mod rules;
+pub mod sys;
+pub mod trial;
+
+/// What `buoy` would print for this input.
+pub fn play(input: &[u8]) -> Vec<u8> {
+    // Mostly room enough for all, so that it's played once.
+    let mut out = vec![0; 4 * input.len() + 4096];
+    let whole = sys::play_into(input, &mut out);
+    if whole > out.len() {
+        out = vec![0; whole];
+        let again = sys::play_into(input, &mut out);
+        assert_eq!(again, whole, "the same input printed another number of bytes");
+    }
+    out.truncate(whole);
+    out
+}

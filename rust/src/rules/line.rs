@@ -1,0 +1,89 @@
+//! The lines of an input.
+
+const LONGEST: usize = 4096;
+
+/// What a line says, wherever it stands.
+pub enum Line {
+    New,
+    Run,
+    Part(PartLine),
+    Script(ScriptLine),
+}
+
+pub enum ScriptLine {
+    Want { user: u32, part: u32, level: u32 },
+    Give { user: u32 },
+    Tick(u32),
+    Bad(u32),
+    Slow(u32, u32),
+    Least,
+}
+
+/// A `part` line of the right form; what it says may make no sense.
+pub struct PartLine {
+    pub part: u32,
+    pub needs: Vec<NeedLine>,
+}
+
+pub struct NeedLine {
+    pub on: u32,
+    pub levels: Vec<u32>,
+    pub most: u32,
+}
+
+/// All lines of an input; `None` for what is no line anywhere.
+pub fn lines(input: &[u8]) -> impl Iterator<Item = Option<Line>> {
+    let ends_with_newline = input.ends_with(b"\n");
+    let body = if ends_with_newline { &input[..input.len() - 1] } else { input };
+    let count = if input.is_empty() { 0 } else { body.split(|&b| b == b'\n').count() };
+    body.split(|&b| b == b'\n').take(count).enumerate().map(move |(i, raw)| {
+        if raw.len() > LONGEST {
+            return None;
+        }
+        let has_newline = i + 1 < count || ends_with_newline;
+        let text = if has_newline && raw.ends_with(b"\r") { &raw[..raw.len() - 1] } else { raw };
+        parse(text)
+    })
+}
+
+fn parse(text: &[u8]) -> Option<Line> {
+    let text = std::str::from_utf8(text).ok()?;
+    let words: Vec<&str> = text.split([' ', '\t']).filter(|word| !word.is_empty()).collect();
+    match words[..] {
+        ["new"] => Some(Line::New),
+        ["run"] => Some(Line::Run),
+        ["part", part] => Some(Line::Part(PartLine { part: number(part)?, needs: Vec::new() })),
+        ["part", part, "needs", ref rest @ ..] => {
+            let needs = rest.split(|&word| word == "and").map(need).collect::<Option<_>>()?;
+            Some(Line::Part(PartLine { part: number(part)?, needs }))
+        }
+        _ => script(&words).map(Line::Script),
+    }
+}
+
+fn script(words: &[&str]) -> Option<ScriptLine> {
+    Some(match *words {
+        [user, "want", part, level] => ScriptLine::Want { user: number(user)?, part: number(part)?, level: number(level)? },
+        [user, "give"] => ScriptLine::Give { user: number(user)? },
+        ["tick", ticks] => ScriptLine::Tick(number(ticks)?),
+        ["bad", part] => ScriptLine::Bad(number(part)?),
+        ["slow", part, askings] => ScriptLine::Slow(number(part)?, number(askings)?),
+        ["least"] => ScriptLine::Least,
+        _ => return None,
+    })
+}
+
+fn need(words: &[&str]) -> Option<NeedLine> {
+    let [on, "from", ref levels @ .., "most", most] = *words else { return None };
+    if levels.is_empty() {
+        return None;
+    }
+    let levels = levels.iter().map(|word| number(word)).collect::<Option<_>>()?;
+    Some(NeedLine { on: number(on)?, levels, most: number(most)? })
+}
+
+/// Decimal digits; too large a number counts as the largest.
+fn number(word: &str) -> Option<u32> {
+    let digits = !word.is_empty() && word.bytes().all(|b| b.is_ascii_digit());
+    digits.then(|| word.parse().unwrap_or(u32::MAX))
+}
