@@ -1,3 +1,4 @@
 pub mod Drafts
 pub mod Inputs
+pub mod Plays
 pub mod Stages

@@ -1,4 +1,7 @@
 // Plays an input: plans, each with its script.
+ghost use Rattle.power.specs.Board.{AtStart};
+ghost use Rattle.sim.specs.Boards.{boardOf};
+ghost use Rattle.play.specs.Plays.{Starts};
 use super::draft::Draft;
 use super::draft::Step;
 use super::reader::Input;
@@ -22,7 +25,9 @@ enum Planned {
     Ended,
 }
 
-fn whole(draft: &Draft) -> Planned {
+fn whole(draft: &Draft) -> Planned
+    ensures { λ r. ⌜ Starts r ⌝ }
+{
     match draft.board() {
         Some(sim) => Planned::Board(sim),
         None => Planned::NoPlan,
@@ -30,7 +35,9 @@ fn whole(draft: &Draft) -> Planned {
 }
 
 // The plan up to its `run`.
-fn read_plan<L: Lines, S: Say>(lines: &mut L, reader: &mut Reader, out: &mut S) -> Planned {
+fn read_plan<L: Lines, S: Say>(lines: &mut L, reader: &mut Reader, out: &mut S) -> Planned
+    ensures { λ r. ⌜ Starts r ⌝ }
+{
     let mut draft = Draft::new();
     for _ in 0..u64::MAX {
         let step = match reader.next(lines) {
@@ -71,7 +78,9 @@ fn skip_to_new<L: Lines>(lines: &mut L, reader: &mut Reader) -> bool {
 }
 
 // Plays a script on a board; whether another plan follows.
-fn run<L: Lines, S: Say>(sim: Sim, lines: &mut L, reader: &mut Reader, out: &mut S) -> bool {
+fn run<L: Lines, S: Say>(sim: Sim, lines: &mut L, reader: &mut Reader, out: &mut S) -> bool
+    requires { ⌜ AtStart (boardOf sim) ⌝ }
+{
     let mut stage = Stage {
         sim,
         lines,
