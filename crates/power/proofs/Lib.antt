@@ -1,11 +1,13 @@
 pub mod Ages
 pub mod Aiming
+pub mod AimsKept
 pub mod Asked
 pub mod Calls
 pub mod Costs
 pub mod Fitted
 pub mod Granting
 pub mod Joined
+pub mod KeptCalls
 pub mod Larger
 pub mod Lowest
 pub mod Moved
