@@ -29,10 +29,10 @@ dist-move t h u a b c le = grind (arith, tells)
 dist-some : (t h : ℕ) → t < 32 → h < 32 → h ≢ t → 1 ≤ dist t h
 dist-some t h a b ne = grind (arith, tells)
 
-moved-self : (u t : ℕ) → t ≡ u → movedOn u t ≡ nextOf t
+pub moved-self : (u t : ℕ) → t ≡ u → movedOn u t ≡ nextOf t
 moved-self u t e = grind (arith, tells)
 
-moved-other : (u t : ℕ) → t ≢ u → movedOn u t ≡ t
+pub moved-other : (u t : ℕ) → t ≢ u → movedOn u t ≡ t
 moved-other u t ne = grind (arith, tells)
 
 -- WHAT THE TURN COSTS
@@ -82,7 +82,7 @@ aged-young t b a u h = go (b .wish u) refl
 pub aged-start : (t : ℕ) (b : Board) → AtStart b → Aged t b
 aged-start t b s u x l g lu e = absurd (none-asked x l g (sym (s .3 u) ∙ e))
 
-is-asked : (w : Wish) (x l g : ℕ) → w ≡ Asked x l g → T (isAsked w)
+pub is-asked : (w : Wish) (x l g : ℕ) → w ≡ Asked x l g → T (isAsked w)
 unfolding isAsked
 is-asked w x l g e = rw e tt
 

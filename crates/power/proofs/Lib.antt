@@ -1,11 +1,14 @@
 pub mod Ages
 pub mod Aiming
+pub mod AimsKept
 pub mod Asked
 pub mod Calls
 pub mod Costs
 pub mod Fitted
 pub mod Granting
 pub mod Joined
+pub mod KeptCalls
+pub mod KeptTicks
 pub mod Larger
 pub mod Lowest
 pub mod Moved
@@ -14,10 +17,12 @@ pub mod OnePart
 pub mod OneWish
 pub mod Plain
 pub mod Plans
+pub mod Pursuing
 pub mod Pushing
 pub mod Puts
 pub mod Quiet
 pub mod Said
+pub mod Settling
 pub mod Sheet
 pub mod Shown
 pub mod SoundLevels

@@ -4,11 +4,11 @@ use mathlib.Core.List.{List}
 use Prim.Native.Nat.{ℕ, _<_, _≤_}
 use native.Mathlib.Omega.{arith}
 use lib.ListN.{length}
-use Rattle.power.specs.Board.{Board, Need, Wish, None', Asked, Granted, onOf, leastOf, mostOf, withWish, ticked}
+use Rattle.power.specs.Board.{Board, Need, Wish, Granted, onOf, leastOf, mostOf, withWish, ticked}
 use Rattle.power.specs.Aim.{Fits}
 use Rattle.power.specs.Moves.{OnlyParts, Targets}
 use Rattle.power.proofs.Puts.{put-each}
-use Rattle.power.proofs.OneWish.{granted-asked, none-granted, older-granted}
+use Rattle.power.proofs.OneWish.{older-granted}
 
 -- they ask only of the plan, and of what was granted
 pub fits-only : (b b' : Board) (t : ℕ → ℕ) → OnlyParts b b' → Fits b t → Fits b' t
@@ -39,7 +39,7 @@ targets-ticked b t l a =
     }
 
 -- a wish that isn't granted covers nothing
-targets-wish : (b : Board) (t l : ℕ → ℕ) (u : ℕ) (w : Wish) → ((x v : ℕ) → w ≡ Granted x v → ⊥) → Targets b t l → Targets (withWish u w b) t l
+pub targets-wish : (b : Board) (t l : ℕ → ℕ) (u : ℕ) (w : Wish) → ((x v : ℕ) → w ≡ Granted x v → ⊥) → Targets b t l → Targets (withWish u w b) t l
 targets-wish b t l u w n a =
     record {
       fits = record { fifteen = a .fits .fifteen; meets = a .fits .meets };
@@ -47,9 +47,3 @@ targets-wish b t l u w n a =
       serves = a .serves;
       under = a .under;
     }
-
-pub targets-want : (b : Board) (t l : ℕ → ℕ) (u x v : ℕ) → Targets b t l → Targets (withWish u (Asked x v 0) b) t l
-targets-want b t l u x v = targets-wish b t l u (Asked x v 0) (λ y m e. granted-asked y m x v 0 (sym e))
-
-pub targets-give : (b : Board) (t l : ℕ → ℕ) (u : ℕ) → Targets b t l → Targets (withWish u None' b) t l
-targets-give b t l u = targets-wish b t l u None' none-granted

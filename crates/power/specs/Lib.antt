@@ -5,11 +5,14 @@ pub mod Cost
 pub mod Examples
 pub mod Found
 pub mod Grants
+pub mod Kept
 pub mod Least
 pub mod Mirrors
 pub mod Moves
 pub mod Promise
+pub mod Refused
 pub mod Rota
 pub mod Sound
 pub mod Tables
+pub mod Turns
 pub mod Walk

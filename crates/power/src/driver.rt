@@ -6,6 +6,9 @@ use crate::Answer;
 use crate::state::Driver;
 use crate::state::Mirror;
 
+// How often the board may be asked in a tick.
+pub(crate) const ASKINGS: u32 = 1024;
+
 impl Driver {
     pub(crate) fn new() -> Driver
         ensures { λ r. ⌜ ((b : Board) → AtStart b → Knows r b) ⌝ }

@@ -6,6 +6,7 @@ ghost use lib.ListN.{length, getD};
 ghost use lib.Dec.{T};
 ghost use Rattle.power.specs.Board.{Board, MayRaise, MayLower, MayLevel, Tries, raised, lowered, levelled, isRising, onOf, leastOf, mostOf, why, called, mayTell, told, inTime, ticked, AtStart};
 ghost use Rattle.power.specs.Promise.{LeastServes, LeastIsLeast, MoreIsMore, CannotBe};
+ghost use Rattle.power.specs.Kept.{Kept, Worked};
 
 pub mod aims;
 mod askings;
@@ -13,16 +14,28 @@ mod course;
 mod down;
 mod driver;
 mod grants;
+mod idle;
 pub mod least;
 pub mod levels;
 mod mirror;
+pub mod refusal;
 mod rota;
+mod serve;
 pub mod state;
 pub mod theorems;
 pub mod theorems_walk;
+mod tick;
+mod turn;
 pub mod types;
 mod up;
+mod users;
 mod wishes;
+
+use crate::driver::ASKINGS;
+use crate::refusal::number;
+use crate::state::Driver;
+use crate::state::Turn;
+use crate::state::Wishes;
 
 // Users 0 to 31, parts 0 to 63, levels 1 to 15.
 #[derive(Clone, Copy)]
@@ -83,6 +96,92 @@ pub trait World: Parts {
     fn ticks(&mut self)
         requires { ⌜ T (inTime (board (now self))) ⌝ }
         ensures { λ _. ⌜ board (now (self .exit)) ≡ ticked (board (now (self .entry))) ⌝ };
+}
+
+// What the keeper knows, at most 65,536 bytes.
+#[derive(Drop)]
+pub struct Keeper {
+    pub parts: u32,
+    driver: Driver,
+    wishes: Wishes,
+    turn: Turn,
+    // for how many ticks it has been quiet
+    idle: u32,
+}
+
+impl Keeper {
+    // at the start: all parts are off, and nobody wants anything
+    pub fn new<P: Parts>(b: &P) -> Keeper
+        requires starts { ⌜ AtStart (board (now b)) ⌝ }
+        ensures { λ r. ⌜ Kept r (board (now (b .entry))) ⌝ }
+    {
+        Keeper {
+            parts: b.parts(),
+            driver: Driver::new(),
+            wishes: Wishes::new(),
+            turn: Turn::new(),
+            idle: 0,
+        }
+    }
+
+    // a call; 0, or why it's turned away
+    pub fn call(&mut self, c: Call) -> u32
+        requires few { ⌜ now self .parts ≤ 64 ⌝ }
+        ensures { λ r. ⌜ ((b : Board) → Kept (now (self .entry)) b → (r ≡ why c b) × Kept (now (self .exit)) (called c b)) ⌝ }
+    {
+        match c {
+            Call::Want(u, x, l) => number(self.want(u, x, l)),
+            Call::Give(u) => number(self.give(u)),
+        }
+    }
+
+    // a tick's work; one user may be told something
+    pub fn work<P: Parts>(&mut self, b: &mut P) -> Option<(u32, Answer)>
+        requires soon { ⌜ 1024 ≤ board (now b) .left ⌝ }
+        requires kept { ⌜ Kept (now self) (board (now b)) ⌝ }
+        ensures { λ r. ⌜ Worked r (now (self .exit)) (board (now (b .exit))) ⌝ }
+    {
+        self.driver.left = ASKINGS;
+        match self.wishes.head(self.turn.user) {
+            None => {
+                self.be_idle(b);
+                None
+            }
+            Some(u) => self.attend(b, u),
+        }
+    }
+}
+
+pub fn keeper_is_small() -> bool
+    ensures { λ r. ⌜ T r ⌝ }
+{
+    std::mem::size_of::<Keeper>() <= 65536
+}
+
+// THE MAIN PROMISE. Whatever is wanted and given back, and whatever doesn't rise.
+pub fn days<W: Parts + World>(w: &mut W, many: u64)
+    requires starts { ⌜ AtStart (board (now w)) ⌝ }
+{
+    let mut k = Keeper::new(w);
+    let mut n: u64 = 0;
+    while n < many {
+        n += 1;
+        match w.next() {
+            Next::Calls(c) => {
+                let no = k.call(c);
+                w.said(c, no);
+            }
+            Next::Tick => {
+                if let Some((u, a)) = k.work(w) {
+                    w.told(u, a);
+                }
+                w.ticks();
+            }
+            Next::Over => {
+                return;
+            }
+        }
+    }
 }
 
 // What is promised beside, each a theorem that a contract names.

@@ -4,7 +4,7 @@ ghost use Prim.Native.Nat.{_≤_};
 ghost use Rattle.std.specs.Options.{Cases};
 ghost use Rattle.power.specs.Board.{Board, ticked};
 ghost use Rattle.power.specs.Mirrors.{SaysAll};
-ghost use Rattle.power.specs.Rota.{nextOf, movedOn, NobodyWaits, FirstWaits, IsHead};
+ghost use Rattle.power.specs.Rota.{nextOf, NobodyWaits, FirstWaits, IsHead};
 use crate::state::Wanted;
 use crate::state::Wishes;
 use crate::types::UserId;
@@ -17,13 +17,6 @@ pub(crate) fn after(u: UserId) -> UserId
     } else {
         UserId { n: 0 }
     }
-}
-
-// Whose turn it is once u is done with.
-pub(crate) fn moved_on(turn: UserId, u: UserId) -> UserId
-    ensures { λ r. ⌜ r .n ≡ movedOn (u .n) (turn .n) ⌝ }
-{
-    if turn.n == u.n { after(turn) } else { turn }
 }
 
 impl Wishes {

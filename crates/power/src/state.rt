@@ -1,9 +1,11 @@
-// What the keeper knows: of each part, of each user, and how often it may still ask in this tick.
+// What the keeper knows: of each part, of each user, whose turn it is, and how often it may still ask in this tick.
 ghost use mathlib.Core.Path.{_≡_};
 ghost use Prim.Native.Nat.{_≤_};
 ghost use lib.ListN.{length};
+use crate::types::Aims;
 use crate::types::Level;
 use crate::types::PartId;
+use crate::types::UserId;
 
 // How often a rising part was found not to be good, up to 64.
 #[derive(Clone, Copy)]
@@ -47,6 +49,14 @@ pub struct Wishes {
 pub struct Driver {
     pub mirror: Mirror,
     pub left: u32,
+}
+
+// Whose turn it is; and while they are served, what is aimed at: made when the turn comes to their want, and kept until it's over.
+#[derive(Drop)]
+pub struct Turn {
+    pub user: UserId,
+    pub aiming: bool,
+    pub aims: Aims,
 }
 
 // How far the way up came: all the way; as far as the askings of this tick went; or to a part that was found not to be good 64 times.
