@@ -9,8 +9,7 @@ use super::reader::Reader;
 use super::stage::Stage;
 use super::stage::StageParts;
 use super::stage::StageWorld;
-use power::Next;
-use power::World;
+use power::days;
 use script::event::Event;
 use script::event::Say;
 use script::line::Line;
@@ -89,13 +88,7 @@ fn run<L: Lines, S: Say>(sim: Sim, lines: &mut L, reader: &mut Reader, out: &mut
         ticks: 0,
         renewed: false,
     };
-    for _ in 0..u64::MAX {
-        match stage.next() {
-            Next::Calls(_) => stage.unclear(),
-            Next::Tick => {}
-            Next::Over => break,
-        }
-    }
+    days(&mut stage, u64::MAX);
     stage.renewed
 }
 

@@ -30,7 +30,7 @@ pub struct Stage<'a, 'b, 'c, L, S> {
 
 impl<L: Lines, S: Say> Stage<'_, '_, '_, L, S> {
     // The last line is no line here.
-    pub(crate) fn unclear(&mut self)
+    fn unclear(&mut self)
         ensures { λ _. ⌜ (now (self .exit) .sim ≡ now (self .entry) .sim) × (now (self .exit) .ticks ≡ now (self .entry) .ticks) × (now (self .exit) .renewed ≡ now (self .entry) .renewed) ⌝ }
     {
         let number = self.reader.number();
