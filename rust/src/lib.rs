@@ -17,12 +17,11 @@ pub mod trial;
 pub fn play(input: &[u8]) -> Vec<u8> {
     // Mostly room enough for all, so that it's played once.
     let mut out = vec![0; 4 * input.len() + 4096];
-    let whole = sys::play_into(input, &mut out);
-    if whole > out.len() {
-        out = vec![0; whole];
-        let again = sys::play_into(input, &mut out);
-        assert_eq!(again, whole, "the same input printed another number of bytes");
+    loop {
+        if let Some(written) = sys::play_into(input, &mut out) {
+            out.truncate(written);
+            return out;
+        }
+        out = vec![0; 4 * out.len()];
     }
-    out.truncate(whole);
-    out
 }

@@ -7,7 +7,7 @@ const UNTOUCHED: u8 = 0xa5;
 fn check_room(input: &[u8], room: usize) {
     let whole = play(input);
     let mut out = vec![UNTOUCHED; room];
-    assert_eq!(sys::play_into(input, &mut out), whole.len());
+    assert_eq!(sys::play_into(input, &mut out), (whole.len() <= room).then_some(whole.len()));
     let fits = room.min(whole.len());
     let lines = whole[..fits].iter().rposition(|&b| b == b'\n').map_or(0, |end| end + 1);
     assert_eq!(out[..lines], whole[..lines], "whole lines that fit are written");
@@ -21,7 +21,7 @@ fn check_room(input: &[u8], room: usize) {
 #[test]
 fn nothing_for_nothing() {
     assert_eq!(play(b""), b"");
-    assert_eq!(sys::play_into(b"", &mut []), 0);
+    assert_eq!(sys::play_into(b"", &mut []), Some(0));
 }
 
 #[test]

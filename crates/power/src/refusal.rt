@@ -12,6 +12,7 @@ pub enum Refusal {
 
 // What a user is told: it can't be with what others were granted; a part that's needed doesn't get good.
 pub const CANT_BE: u32 = 5;
+
 pub const NOT_GOOD: u32 = 6;
 
 pub(crate) fn number(r: Result<(), Refusal>) -> u32

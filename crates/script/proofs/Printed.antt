@@ -1,4 +1,4 @@
--- Levels on a line, one after the other.
+-- What is written after what was written before, and levels on a line.
 use mathlib.Core.Path.{_≡_, refl, sym, ap, _∙_}
 use mathlib.Core.Bool.{Bool, true, false, cond}
 use mathlib.Core.List.{List, [], _∷_, _++_, append-assoc}
@@ -8,6 +8,7 @@ use lib.Dec.{ltb}
 use lib.ListN.{length, getD, take}
 use Rattle.std.proofs.shelf.Lists.{length-take-le, take-more}
 use Rattle.std.proofs.shelf.Tests.{lt-ltb}
+use Rattle.std.specs.Orderings.{When}
 use Rattle.std.specs.Written.{decimal}
 use Rattle.script.specs.Events.{spaced}
 
@@ -26,3 +27,13 @@ spaced-push (y ∷ xs) x = ap (λ (b : Bool). spaced (y ∷ xs) ++ (gap b ++ dec
 pub spaced-more : (ls : List ℕ) (i : ℕ) → i < length ls → spaced (take i ls) ++ (gap (ltb 0 i) ++ decimal (getD ls i 0)) ≡ spaced (take (i + 1) ls)
 spaced-more ls i h =
     ap (λ (n : ℕ). spaced (take i ls) ++ (gap (ltb 0 n) ++ decimal (getD ls i 0))) (sym (length-take-le i ls (omega arith))) ∙ spaced-push (take i ls) (getD ls i 0) ∙ ap spaced (sym (take-more ls i 0 h))
+
+-- the same bytes in other words
+pub as-well : (r : Bool) (was is bs cs : List ℕ) → bs ≡ cs → When r (is ≡ was ++ bs) (Unit {0}) → When r (is ≡ was ++ cs) (Unit {0})
+as-well true was is bs cs e w = w ∙ ap (λ (l : List ℕ). was ++ l) e
+as-well false was is bs cs e w = tt
+
+-- bytes after bytes
+pub one-more : (r : Bool) (was then is bs cs : List ℕ) → then ≡ was ++ bs → When r (is ≡ then ++ cs) (Unit {0}) → When r (is ≡ was ++ (bs ++ cs)) (Unit {0})
+one-more true was then is bs cs e w = w ∙ ap (λ (l : List ℕ). l ++ cs) e ∙ append-assoc was bs cs
+one-more false was then is bs cs e w = tt

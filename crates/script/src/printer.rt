@@ -8,6 +8,7 @@ ghost use Rattle.script.specs.Events.{printed, spaced};
 ghost use Rattle.script.specs.Sheets.{Waits};
 use super::event::Event;
 use super::event::Say;
+use super::row::Row;
 use super::write::event_line;
 use super::write::levels_line;
 use super::write::put_at;
@@ -83,18 +84,22 @@ pub impl<W: Write> Say for Printer<'_, W> as PrinterSay {
     fn say(&mut self, event: Event)
         ensures { λ _. ⌜ When (now (self .exit) .failed) (Unit {0}) (Waits (take (now (self .entry) .len) (now (self .entry) .buffer)) (printed event ++ 10 ∷ []) (take (now (self .exit) .len) (now (self .exit) .buffer))) ⌝ }
     {
-        match event_line(event) {
-            Some(row) => self.put(row.text()),
-            None => self.failed = true,
+        let mut row = Row::empty();
+        if event_line(&mut row, event) {
+            self.put(row.text());
+        } else {
+            self.failed = true;
         }
     }
 
     fn say_levels(&mut self, levels: &[u32])
         ensures { λ _. ⌜ When (now (self .exit) .failed) (Unit {0}) (Waits (take (now (self .entry) .len) (now (self .entry) .buffer)) (spaced (now (levels .entry)) ++ 10 ∷ []) (take (now (self .exit) .len) (now (self .exit) .buffer))) ⌝ }
     {
-        match levels_line(levels) {
-            Some(row) => self.put(row.text()),
-            None => self.failed = true,
+        let mut row = Row::empty();
+        if levels_line(&mut row, levels) {
+            self.put(row.text());
+        } else {
+            self.failed = true;
         }
     }
 }

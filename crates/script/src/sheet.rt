@@ -8,6 +8,7 @@ ghost use Rattle.script.specs.Events.{printed, spaced};
 ghost use Rattle.script.specs.Sheets.{Added};
 use super::event::Event;
 use super::event::Say;
+use super::row::Row;
 use super::write::event_line;
 use super::write::levels_line;
 use super::write::put_at;
@@ -68,18 +69,22 @@ pub impl Say for Sheet<'_> as SheetSay {
     fn say(&mut self, event: Event)
         ensures { λ _. ⌜ Added (now (self .entry)) (now (self .exit)) (printed event ++ 10 ∷ []) ⌝ }
     {
-        match event_line(event) {
-            Some(row) => self.put(row.text()),
-            None => self.full = true,
+        let mut row = Row::empty();
+        if event_line(&mut row, event) {
+            self.put(row.text());
+        } else {
+            self.full = true;
         }
     }
 
     fn say_levels(&mut self, levels: &[u32])
         ensures { λ _. ⌜ Added (now (self .entry)) (now (self .exit)) (spaced (now (levels .entry)) ++ 10 ∷ []) ⌝ }
     {
-        match levels_line(levels) {
-            Some(row) => self.put(row.text()),
-            None => self.full = true,
+        let mut row = Row::empty();
+        if levels_line(&mut row, levels) {
+            self.put(row.text());
+        } else {
+            self.full = true;
         }
     }
 }

@@ -4,16 +4,12 @@ ghost use mathlib.Core.Bool.{true, false, cond};
 ghost use mathlib.Core.List.{[], _∷_, _++_};
 ghost use Prim.Native.Nat.{_+_, _≤_, _<_};
 ghost use lib.ListN.{length, take, drop};
-ghost use Rattle.std.specs.Options.{Cases};
 ghost use Rattle.std.specs.Orderings.{When};
 ghost use Rattle.std.specs.Written.{decimal};
 ghost use Rattle.script.specs.Events.{printed, spaced};
 ghost use Rattle.script.specs.Rows.{rowText};
 use super::event::Event;
-use super::event::EventDisplay;
 use super::row::Row;
-use std::fmt;
-use std::fmt::Formatter;
 
 // Copies bytes to a place in memory.
 pub fn put_at(memory: &mut [u8], at: usize, bytes: &[u8])
@@ -37,7 +33,8 @@ impl Row {
 
     // Bytes at the end, if there is room.
     pub fn push(&mut self, bytes: &[u8]) -> bool
-        ensures { λ r. ⌜ When r (rowText (now (self .exit)) ≡ rowText (now (self .entry)) ++ now (bytes .entry)) ((now (self .exit) ≡ now (self .entry)) × (1024 < now (self .entry) .len + length (now (bytes .entry)))) ⌝ }
+        ensures wrote { λ r. ⌜ When r (rowText (now (self .exit)) ≡ rowText (now (self .entry)) ++ now (bytes .entry)) (Unit {0}) ⌝ }
+        ensures full { λ r. ⌜ When r (Unit {0}) ((now (self .exit) ≡ now (self .entry)) × (1024 < now (self .entry) .len + length (now (bytes .entry)))) ⌝ }
     {
         if bytes.len() > 1024 - self.len {
             return false;
@@ -45,6 +42,47 @@ impl Row {
         put_at(&mut self.bytes, self.len, bytes);
         self.len += bytes.len();
         true
+    }
+
+    fn push_byte(&mut self, b: u8) -> bool
+        ensures { λ r. ⌜ When r (rowText (now (self .exit)) ≡ rowText (now (self .entry)) ++ b ∷ []) (Unit {0}) ⌝ }
+    {
+        if self.len >= 1024 {
+            return false;
+        }
+        self.bytes[self.len] = b;
+        self.len += 1;
+        true
+    }
+
+    // A number's digits at the end.
+    pub fn push_number(&mut self, n: u64) -> bool
+        ensures { λ r. ⌜ When r (rowText (now (self .exit)) ≡ rowText (now (self .entry)) ++ decimal n) (Unit {0}) ⌝ }
+    {
+        if n < 10 {
+            return self.push_byte(b'0' + n as u8);
+        }
+        if !self.push_number(n / 10) {
+            return false;
+        }
+        self.push_byte(b'0' + (n % 10) as u8)
+    }
+
+    // A word and a number.
+    fn push_both(&mut self, word: &[u8], n: u32) -> bool
+        ensures { λ r. ⌜ When r (rowText (now (self .exit)) ≡ rowText (now (self .entry)) ++ (now (word .entry) ++ decimal n)) (Unit {0}) ⌝ }
+    {
+        if !self.push(word) {
+            return false;
+        }
+        self.push_number(n as u64)
+    }
+
+    // A number and a question mark.
+    fn push_asked(&mut self, n: u64) -> bool
+        ensures { λ r. ⌜ When r (rowText (now (self .exit)) ≡ rowText (now (self .entry)) ++ (decimal n ++ 63 ∷ [])) (Unit {0}) ⌝ }
+    {
+        self.push_number(n) && self.push(b"?")
     }
 
     // What was written.
@@ -55,65 +93,50 @@ impl Row {
     }
 }
 
-pub impl fmt::Write for Row as RowWrite {
-    ghost took = { λ s bs t. rowText t ≡ rowText s ++ bs };
-
-    fn write_str(&mut self, s: &str) -> fmt::Result {
-        if self.push(s.as_bytes()) {
-            Ok(())
-        } else {
-            Err(fmt::Error)
-        }
-    }
-}
-
-// What `{}` writes of a value, if a row can hold it.
-pub fn row_of<D: fmt::Display + Drop>(value: D) -> Option<Row>
-    ensures { λ r. ⌜ Cases r (Unit {0}) (λ row. Cases (shown value) (Unit {0}) (λ bs. rowText row ≡ bs)) ⌝ }
+// The text of an event.
+fn write_event(row: &mut Row, event: Event) -> bool
+    ensures { λ r. ⌜ When r (rowText (now (row .exit)) ≡ rowText (now (row .entry)) ++ printed event) (Unit {0}) ⌝ }
 {
-    let mut f = Formatter::new(Row::empty());
-    match f.write(value) {
-        Ok(()) => Some(f.into_inner()),
-        Err(_) => None,
+    match event {
+        Event::Taken => row.push(b"taken"),
+        Event::Away(why) => row.push_both(b"away ", why),
+        Event::Done(user) => row.push_number(user as u64) && row.push(b" done"),
+        Event::No(user, why) => row.push_number(user as u64) && row.push_both(b" no ", why),
+        Event::Raise(x) => row.push_both(b"raise ", x),
+        Event::Good(x) => row.push_both(b"good ", x),
+        Event::Level(x, level) => row.push_both(b"level ", x) && row.push_both(b" ", level),
+        Event::Lower(x) => row.push_both(b"lower ", x),
+        Event::NoPlan => row.push(b"no plan"),
+        Event::NoLine(number) => row.push(b"line ") && row.push_asked(number),
     }
 }
 
 // The line of an event.
-pub fn event_line(event: Event) -> Option<Row>
-    ensures { λ r. ⌜ Cases r (Unit {0}) (λ row. rowText row ≡ printed event ++ 10 ∷ []) ⌝ }
+pub fn event_line(row: &mut Row, event: Event) -> bool
+    ensures { λ r. ⌜ When r (rowText (now (row .exit)) ≡ rowText (now (row .entry)) ++ (printed event ++ 10 ∷ [])) (Unit {0}) ⌝ }
 {
-    ended(row_of(event)?)
-}
-
-// The line of levels, with single spaces between them.
-pub fn levels_line(levels: &[u32]) -> Option<Row>
-    ensures { λ r. ⌜ Cases r (Unit {0}) (λ row. rowText row ≡ spaced (now (levels .entry)) ++ 10 ∷ []) ⌝ }
-{
-    let mut row = Row::empty();
-    for (i, level) in levels.iter().enumerate() {
-        row = with_level(row, i > 0, *level)?;
-    }
-    ended(row)
+    write_event(row, event) && row.push(b"\n")
 }
 
 // One level more, after a space or as the first.
-fn with_level(mut row: Row, after: bool, level: u32) -> Option<Row>
-    ensures { λ r. ⌜ Cases r (Unit {0}) (λ more. rowText more ≡ rowText row ++ (cond after (32 ∷ []) [] ++ decimal level)) ⌝ }
+fn write_level(row: &mut Row, after: bool, level: u32) -> bool
+    ensures { λ r. ⌜ When r (rowText (now (row .exit)) ≡ rowText (now (row .entry)) ++ (cond after (32 ∷ []) [] ++ decimal level)) (Unit {0}) ⌝ }
 {
-    if after && !row.push(b" ") {
-        return None;
+    if after {
+        return row.push_both(b" ", level);
     }
-    let number = row_of(level)?;
-    if row.push(number.text()) {
-        Some(row)
-    } else {
-        None
-    }
+    row.push_number(level as u64)
 }
 
-// The line with its end.
-fn ended(mut row: Row) -> Option<Row>
-    ensures { λ r. ⌜ Cases r (Unit {0}) (λ line. rowText line ≡ rowText row ++ 10 ∷ []) ⌝ }
+// The line of levels, with single spaces between them.
+pub fn levels_line(row: &mut Row, levels: &[u32]) -> bool
+    requires { ⌜ rowText (now row) ≡ [] ⌝ }
+    ensures { λ r. ⌜ When r (rowText (now (row .exit)) ≡ spaced (now (levels .entry)) ++ 10 ∷ []) (Unit {0}) ⌝ }
 {
-    if row.push(b"\n") { Some(row) } else { None }
+    for (i, level) in levels.iter().enumerate() {
+        if !write_level(row, i > 0, *level) {
+            return false;
+        }
+    }
+    row.push(b"\n")
 }

@@ -42,7 +42,7 @@ fn row(parts: u32, users: u32, load: &Load) {
     let input = load.text.as_bytes();
     let printed = plain::play(input);
     let mut room = vec![0; printed.len()];
-    assert!(sys::play_into(input, &mut room) == printed.len() && room == printed, "both print the same");
+    assert!(sys::play_into(input, &mut room) == Some(printed.len()) && room == printed, "both print the same");
     let library = best(|| sys::play_into(input, &mut room));
     let plain = best(|| plain::play(input));
     let rate = |time: Duration| load.count as f64 / time.as_secs_f64();

@@ -122,15 +122,13 @@ impl Keeper {
         if u >= USERS {
             return Err(Refusal::NoSuch);
         }
-        if self.waiting.has(u) {
-            self.waiting.remove(u);
-            if self.turn == u {
-                self.move_on();
-            }
-        } else if self.granted.has(u) {
-            self.granted.remove(u);
-        } else {
+        if !self.waiting.has(u) && !self.granted.has(u) {
             return Err(Refusal::WantsNothing);
+        }
+        self.waiting.remove(u);
+        self.granted.remove(u);
+        if self.turn == u {
+            self.move_on();
         }
         self.quiet = 0;
         Ok(())
@@ -195,13 +193,16 @@ impl Keeper {
         Some(Aim { ceiling, goal: least(&self.plan, &alone) })
     }
 
-    /// From the last part to the first; true when it's through.
+    /// From the last part to the first; true when it's through. It stops when the askings are used up, wherever it is then.
     fn down(&mut self, levels: &Levels, out: &mut Print) -> bool {
         for x in (0..self.plan.parts()).rev() {
             let to = levels[x];
-            while self.board.states[x].level() > to {
+            loop {
                 if self.board.left == 0 {
                     return false;
+                }
+                if self.board.states[x].level() <= to {
+                    break;
                 }
                 if to == 0 {
                     self.board.lower(x, out);
@@ -216,15 +217,16 @@ impl Keeper {
 
     /// From the first part to the last; what is told when it's through, or a part isn't good.
     fn up(&mut self, goal: &Levels, out: &mut Print) -> Option<Answer> {
-        for (x, &to) in goal.iter().enumerate().take(self.plan.parts()) {
-            while self.board.states[x].level() < to || to > 0 && self.board.states[x] == State::Rising {
-                if self.board.states[x] == State::Rising && self.tried[x] == TRIES {
-                    return Some(Answer::NotGood);
-                }
+        for (x, &to) in goal.iter().enumerate().take(self.plan.parts()).filter(|&(_, &to)| to > 0) {
+            loop {
                 if self.board.left == 0 {
                     return None;
                 }
-                self.step_up(x, out);
+                match self.board.states[x] {
+                    State::On(level) if level >= to => break,
+                    State::Rising if self.tried[x] == TRIES => return Some(Answer::NotGood),
+                    _ => self.step_up(x, out),
+                }
             }
         }
         Some(Answer::Done)
