@@ -123,7 +123,7 @@ module _ (k k' : Keeper) (b : Board) (u x l g : ℕ) (m : Kept k b) (lu : u < 32
         let q : b' .quiet ≡ 0 = o .quiet ∙ not-quiet in (
           in-time-soon b' (young-only u b b' o aged) (omega arith),
           kept-ticked k' b' h s (lean-soon b' q) (rw (et, e) (aged-spent u b b' x l g (o .wish) w (p .0) (p .1) aged))
-          (λ _. rw (et, e) (aims-for (ticked b') (t .aims) (older (b' .wish u)) x l (g + 1) (older-is (b' .wish u) x l g w') (aims-ticked b' (t .aims) x l (p .2)))),
+              (λ _. rw (et, e) (aims-for (ticked b') (t .aims) (older (b' .wish u)) x l (g + 1) (older-is (b' .wish u) x l g w') (aims-ticked b' (t .aims) x l (p .2)))),
         )
 
     pub worked-told :

@@ -37,7 +37,13 @@ impl<'a> Held<'a> {
 }
 
 // How it's used: x is wanted at l while something is read. The user, who had nothing, has nothing after, also where the reading failed.
-pub fn read_with(k: &mut Keeper, u: u32, x: u32, l: u32, reading: Result<u32, Refusal>) -> Result<u32, Refusal>
+pub fn read_with(
+    k: &mut Keeper,
+    u: u32,
+    x: u32,
+    l: u32,
+    reading: Result<u32, Refusal>,
+) -> Result<u32, Refusal>
     requires few { ⌜ now k .parts ≤ 64 ⌝ }
     ensures kept { λ _. ⌜ ((b : Board) → Kept (now (k .entry)) b → T (isNone (b .wish u)) → Kept (now (k .exit)) (called (Give u) (called (Want u x l) b))) ⌝ }
     ensures nothing { λ _. ⌜ ((b : Board) → T (isNone (b .wish u)) → T (isNone (called (Give u) (called (Want u x l) b) .wish u))) ⌝ }

@@ -10,8 +10,10 @@ pub enum Refusal {
     Nothing,
 }
 
-// What a user is told: it can't be with what others were granted; a part that's needed doesn't get good.
+// What a user is told: it can't be, with what others were granted.
 pub const CANT_BE: u32 = 5;
+
+// A part that's needed doesn't get good.
 pub const NOT_GOOD: u32 = 6;
 
 pub(crate) fn number(r: Result<(), Refusal>) -> u32

@@ -20,7 +20,13 @@ use crate::types::UserId;
 
 impl Keeper {
     // What u, who wants x at l, is to be told, if anything yet.
-    pub(crate) fn pursue<P: Parts>(&mut self, b: &mut P, u: UserId, x: PartId, l: Level) -> Option<Answer>
+    pub(crate) fn pursue<P: Parts>(
+        &mut self,
+        b: &mut P,
+        u: UserId,
+        x: PartId,
+        l: Level,
+    ) -> Option<Answer>
         requires mirrors { ⌜ Mirrors (now self) (board (now b)) ⌝ }
         requires sound { ⌜ Sound (board (now b)) ⌝ }
         requires part { ⌜ x .n < board (now b) .parts ⌝ }
@@ -35,11 +41,14 @@ impl Keeper {
     {
         match self.turn.take(b, &self.wishes, u, x, l) {
             Err(_) => Some(Answer::No(CANT_BE)),
-            Ok(_) => match self.driver.go(b, &self.turn.aims.ceiling, &self.turn.aims.goal) {
-                Progress::Through => Some(Answer::Done),
-                Progress::Spent => None,
-                Progress::Stuck => Some(Answer::No(NOT_GOOD)),
-            },
+            Ok(_) => {
+                let aims = &self.turn.aims;
+                match self.driver.go(b, &aims.ceiling, &aims.goal) {
+                    Progress::Through => Some(Answer::Done),
+                    Progress::Spent => None,
+                    Progress::Stuck => Some(Answer::No(NOT_GOOD)),
+                }
+            }
         }
     }
 

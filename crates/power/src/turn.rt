@@ -35,7 +35,14 @@ impl Turn {
     }
 
     // It is the turn of u, who wants x at l. What to aim at is made if it wasn't yet.
-    pub(crate) fn take<P: Parts>(&mut self, b: &P, wishes: &Wishes, u: UserId, x: PartId, l: Level) -> Result<(), CantBe>
+    pub(crate) fn take<P: Parts>(
+        &mut self,
+        b: &P,
+        wishes: &Wishes,
+        u: UserId,
+        x: PartId,
+        l: Level,
+    ) -> Result<(), CantBe>
         requires few { ⌜ board (now b) .parts ≤ 64 ⌝ }
         requires sound { ⌜ Sound (board (now b)) ⌝ }
         requires says { ⌜ SaysAll (now wishes) (board (now b)) ⌝ }
