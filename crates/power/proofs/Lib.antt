@@ -5,6 +5,7 @@ pub mod Asked
 pub mod Calls
 pub mod Costs
 pub mod Fitted
+pub mod GivenBack
 pub mod Granting
 pub mod Joined
 pub mod KeptCalls

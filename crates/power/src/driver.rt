@@ -3,6 +3,7 @@ ghost use Prim.Native.Nat.{ℕ};
 ghost use Rattle.power.specs.Board.{Board, AtStart, told, ticked};
 ghost use Rattle.power.specs.Mirrors.{Knows};
 use crate::Answer;
+use crate::refusal::NOT_GOOD;
 use crate::state::Driver;
 use crate::state::Mirror;
 
@@ -24,7 +25,7 @@ impl Driver {
         ensures { λ _. ⌜ ((b : Board) (u : ℕ) → Knows (now (self .entry)) b → Knows (now (self .exit)) (told u a b)) ⌝ }
     {
         if let Answer::No(k) = a {
-            if k == 6 {
+            if k == NOT_GOOD {
                 self.mirror.anew();
             }
         }

@@ -14,6 +14,7 @@ mod course;
 mod down;
 mod driver;
 mod grants;
+pub mod guard;
 mod idle;
 pub mod least;
 pub mod levels;

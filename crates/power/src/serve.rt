@@ -41,12 +41,14 @@ impl Keeper {
     {
         match self.turn.take(b, &self.wishes, u, x, l) {
             Err(_) => Some(Answer::No(CANT_BE)),
-            Ok(_) => match self.driver
-                .go(b, &self.turn.aims.ceiling, &self.turn.aims.goal) {
-                Progress::Through => Some(Answer::Done),
-                Progress::Spent => None,
-                Progress::Stuck => Some(Answer::No(NOT_GOOD)),
-            },
+            Ok(_) => {
+                let aims = &self.turn.aims;
+                match self.driver.go(b, &aims.ceiling, &aims.goal) {
+                    Progress::Through => Some(Answer::Done),
+                    Progress::Spent => None,
+                    Progress::Stuck => Some(Answer::No(NOT_GOOD)),
+                }
+            }
         }
     }
 

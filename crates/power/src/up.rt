@@ -13,6 +13,9 @@ use crate::types::Level;
 use crate::types::Levels;
 use crate::types::PartId;
 
+// A rising part is asked so often whether it's good.
+const TRIES: u32 = 64;
+
 impl Driver {
     // One part, whose needs are through.
     pub(crate) fn raise_to<P: Parts>(
@@ -38,7 +41,7 @@ impl Driver {
             match self.mirror.get(x) {
                 PartState::Off => self.raise_part(b, x),
                 PartState::Rising(n) => {
-                    if n.n == 64 {
+                    if n.n == TRIES {
                         return Progress::Stuck;
                     }
                     let _good = self.try_part(b, x, n);
