@@ -26,7 +26,7 @@ use Rattle.power.specs.Turns.{AimsAt, AimsFor, DoneWith}
 use Rattle.power.specs.Kept.{Mirrors, Kept, Pursued, Worked}
 use Rattle.power.proofs.Tests.{and-i}
 use Rattle.power.proofs.Puts.{put-each}
-use Rattle.power.proofs.Said.{says-ticked, asked-waits, nobody-asked}
+use Rattle.power.proofs.Said.{says-ticked, asked-waits, nobody-asked, waits-asked}
 use Rattle.power.proofs.SoundUsers.{sound-told, sound-ticked}
 use Rattle.power.proofs.Ages.{is-asked, moved-self, aged-young, aged-moved, aged-told, aged-spent, aged-still}
 use Rattle.power.proofs.Quiet.{quiet-still, lean-ticked, lean-soon, lean-late, in-time-soon, in-time-lean}
@@ -50,7 +50,11 @@ kept-ticked k b m s l a t =
 young-only : (t : ℕ) (b b' : Board) → OnlyParts b b' → Aged t b → (u : ℕ) → u < 32 → T (young (b' .wish u))
 young-only t b b' o a u hu = subst (λ (f : ℕ → Wish). T (young (f u))) (sym (o .wish)) (aged-young t b a u hu)
 
--- NOBODY WAITS
+-- NOBODY WAITS, while it is quiet
+pub quiet-nobody : (k : Keeper) (b : Board) → Kept k b → 0 < k .idle → NobodyWaits (k .wishes) 0 32
+quiet-nobody k b m h u z hu w =
+    T-not (isAsked (b .wish u)) (m .still (omega (arith, m .mirrors .idle)) u hu) (waits-asked (k .wishes) b u (m .mirrors .says) w)
+
 module _ (k k' : Keeper) (b : Board) (m : Kept k b) (nobody : NobodyWaits (k .wishes) 0 32) (et : k' .turn ≡ k .turn) where
   none : (u : ℕ) → u < 32 → T (not (isAsked (b .wish u)))
   none = nobody-asked (k .wishes) b (m .mirrors .says) nobody

@@ -50,9 +50,9 @@ impl Keeper {
     {
         if self.idle == COMES_DOWN_AFTER {
             self.driver.settle(b, &self.wishes);
-            self.tick();
+            self.quiet_tick();
             return;
         }
-        self.tick();
+        self.quiet_tick();
     }
 }

@@ -143,6 +143,11 @@ impl Keeper {
         ensures { λ r. ⌜ Worked r (now (self .exit)) (board (now (b .exit))) ⌝ }
     {
         self.driver.left = ASKINGS;
+        // while it's quiet nobody waits
+        if self.idle > 0 {
+            self.be_idle(b);
+            return None;
+        }
         match self.wishes.head(self.turn.user) {
             None => {
                 self.be_idle(b);

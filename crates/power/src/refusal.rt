@@ -13,10 +13,7 @@ pub enum Refusal {
 // What a user is told: it can't be, with what others were granted.
 pub const CANT_BE: u32 = 5;
 
-<<<<<<< HEAD
-=======
 // A part that's needed doesn't get good.
->>>>>>> 3e7d276c45fd5059c1a9c2158485866565b952e1
 pub const NOT_GOOD: u32 = 6;
 
 pub(crate) fn number(r: Result<(), Refusal>) -> u32

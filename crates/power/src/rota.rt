@@ -53,4 +53,12 @@ impl Wishes {
             None => { if quiet < 64 { quiet + 1 } else { 64 } }
         }
     }
+
+    // The same where nobody waits: no user is looked at.
+    pub(crate) fn quieter(&self, quiet: u32) -> u32
+        requires { ⌜ NobodyWaits (now self) 0 32 ⌝ }
+        ensures { λ r. ⌜ ((b : Board) → SaysAll (now (self .entry)) b → quiet ≡ b .quiet → r ≡ ticked b .quiet) ⌝ }
+    {
+        if quiet < 64 { quiet + 1 } else { 64 }
+    }
 }

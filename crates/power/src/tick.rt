@@ -2,6 +2,7 @@
 ghost use mathlib.Core.Path.{_≡_};
 ghost use Rattle.power.specs.Board.{Board, told, ticked};
 ghost use Rattle.power.specs.Mirrors.{wantedBy};
+ghost use Rattle.power.specs.Rota.{NobodyWaits};
 ghost use Rattle.power.specs.Turns.{DoneWith};
 ghost use Rattle.power.specs.Kept.{Mirrors};
 ghost use Rattle.power.specs.declared.state.Wanted.the-variants.{Asked};
@@ -29,6 +30,16 @@ impl Keeper {
         ensures turn { λ _. ⌜ now (self .exit) .turn ≡ now (self .entry) .turn ⌝ }
     {
         self.idle = self.wishes.quiet_after(self.idle);
+        self.driver.rest();
+    }
+
+    // The same where nobody waits.
+    pub(crate) fn quiet_tick(&mut self)
+        requires nobody { ⌜ NobodyWaits (now self .wishes) 0 32 ⌝ }
+        ensures mirrors { λ _. ⌜ ((b : Board) → Mirrors (now (self .entry)) b → Mirrors (now (self .exit)) (ticked b)) ⌝ }
+        ensures turn { λ _. ⌜ now (self .exit) .turn ≡ now (self .entry) .turn ⌝ }
+    {
+        self.idle = self.wishes.quieter(self.idle);
         self.driver.rest();
     }
 }

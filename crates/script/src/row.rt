@@ -6,8 +6,8 @@ ghost use lib.ListN.{length};
 // The first `len` of these bytes.
 #[derive(Clone, Copy)]
 pub struct Row {
-    pub bytes: [u8; 1024],
+    pub bytes: [u8; 256],
     pub len: usize,
-    ghost within: { len ≤ 1024 },
-    ghost long: { length bytes ≡ 1024 },
+    ghost within: { len ≤ 256 },
+    ghost long: { length bytes ≡ 256 },
 }

@@ -26,7 +26,7 @@ impl Row {
         ensures { λ r. ⌜ rowText r ≡ [] ⌝ }
     {
         Row {
-            bytes: [0; 1024],
+            bytes: [0; 256],
             len: 0,
         }
     }
@@ -34,9 +34,9 @@ impl Row {
     // Bytes at the end, if there is room.
     pub fn push(&mut self, bytes: &[u8]) -> bool
         ensures wrote { λ r. ⌜ When r (rowText (now (self .exit)) ≡ rowText (now (self .entry)) ++ now (bytes .entry)) (Unit {0}) ⌝ }
-        ensures full { λ r. ⌜ When r (Unit {0}) ((now (self .exit) ≡ now (self .entry)) × (1024 < now (self .entry) .len + length (now (bytes .entry)))) ⌝ }
+        ensures full { λ r. ⌜ When r (Unit {0}) ((now (self .exit) ≡ now (self .entry)) × (256 < now (self .entry) .len + length (now (bytes .entry)))) ⌝ }
     {
-        if bytes.len() > 1024 - self.len {
+        if bytes.len() > 256 - self.len {
             return false;
         }
         put_at(&mut self.bytes, self.len, bytes);
@@ -47,7 +47,7 @@ impl Row {
     fn push_byte(&mut self, b: u8) -> bool
         ensures { λ r. ⌜ When r (rowText (now (self .exit)) ≡ rowText (now (self .entry)) ++ b ∷ []) (Unit {0}) ⌝ }
     {
-        if self.len >= 1024 {
+        if self.len >= 256 {
             return false;
         }
         self.bytes[self.len] = b;
