@@ -1,4 +1,6 @@
-// What Rust and C call: an input played, and what happens written into lent memory.
+// What Rust and C call: plans and scripts as text, and what comes of them in lent memory.
+pub mod plan;
+
 ghost use Prim.Native.Nat.{_≤_};
 use play::play::play;
 use script::lines::SliceLines;
