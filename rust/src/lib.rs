@@ -13,6 +13,34 @@ pub mod rules;
 pub mod sys;
 pub mod trial;
 
+/// Why there is no least.
+#[cfg(not(feature = "plain"))]
+#[derive(Clone, Copy, Debug, PartialEq, Eq)]
+pub enum NoLeast {
+    /// The text is no plan, or the plan makes no sense.
+    NoPlan,
+    /// It can't be: a level above 15, or above what a part allows.
+    CannotBe,
+}
+
+/// Whether a plan (`part` lines, up to `run` or its end) makes sense.
+#[cfg(not(feature = "plain"))]
+pub fn makes_sense(plan: &[u8]) -> bool {
+    sys::check(plan) == 0
+}
+
+/// The least levels of a plan's 64 parts at most, where `wants[x]` is the level wanted of part x; 0 for parts that there aren't.
+#[cfg(not(feature = "plain"))]
+pub fn least(plan: &[u8], wants: &[u32]) -> Result<[u32; 64], NoLeast> {
+    const CANT_BE: u32 = 5;
+    let mut levels = [0; 64];
+    match sys::least_into(plan, wants, &mut levels) {
+        0 => Ok(levels),
+        CANT_BE => Err(NoLeast::CannotBe),
+        _ => Err(NoLeast::NoPlan),
+    }
+}
+
 /// What `buoy` would print for this input.
 pub fn play(input: &[u8]) -> Vec<u8> {
     // Mostly room enough for all, so that it's played once.

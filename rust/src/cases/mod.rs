@@ -5,7 +5,7 @@
 mod garbage;
 mod hostile;
 mod pen;
-mod plans;
+pub mod plans;
 mod wander;
 
 use crate::rng::Rng;
