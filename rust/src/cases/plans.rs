@@ -17,6 +17,10 @@ impl Plan {
         self.parts.len() as u32
     }
 
+    pub fn is_empty(&self) -> bool {
+        self.parts.is_empty()
+    }
+
     pub fn lines(&self) -> impl Iterator<Item = String> {
         self.parts.iter().enumerate().map(|(x, needs)| part_line(x as u32, needs))
     }
