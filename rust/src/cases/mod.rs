@@ -5,6 +5,7 @@
 mod garbage;
 mod hostile;
 mod pen;
+mod plain_sight;
 mod plans;
 mod wander;
 
@@ -22,6 +23,13 @@ pub fn case(seed: u64) -> Vec<u8> {
         }
         one(&mut pen);
     }
+    pen.into_bytes()
+}
+
+/// The input of a seed, of one plan, in which whose turn it is and what stands on the board is known from what is printed.
+pub fn in_plain_sight(seed: u64) -> Vec<u8> {
+    let mut pen = Pen::new(Rng::new(seed));
+    plain_sight::script(&mut pen);
     pen.into_bytes()
 }
 
