@@ -57,6 +57,11 @@ fn first_difference(library: &[u8], plain: &[u8]) -> Option<Failure> {
 
 /// A shorter input that fails too: lines are left out, many at once and then fewer, as long as it fails and isn't tried too often.
 pub fn shortened(input: &[u8]) -> Vec<u8> {
+    shortened_while(input, |shorter| of_input(shorter).is_err())
+}
+
+/// The same for what fails in another way.
+pub fn shortened_while(input: &[u8], fails: impl Fn(&[u8]) -> bool) -> Vec<u8> {
     let mut tries = 1_000;
     let mut lines: Vec<&[u8]> = input.split_inclusive(|&b| b == b'\n').collect();
     let mut chunk = lines.len().div_ceil(2);
@@ -66,7 +71,7 @@ pub fn shortened(input: &[u8]) -> Vec<u8> {
             tries -= 1;
             let end = (start + chunk).min(lines.len());
             let rest = [&lines[..start], &lines[end..]].concat();
-            if of_input(&rest.concat()).is_err() {
+            if fails(&rest.concat()) {
                 lines = rest;
             } else {
                 start = end;

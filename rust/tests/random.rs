@@ -2,7 +2,7 @@
 //!
 //! `BUOY_SEEDS` says how many are tried, `BUOY_SEED` from which on.
 
-use buoy::{cases, trial};
+use buoy::{cases, fewest, trial};
 
 fn from_env(name: &str, otherwise: u64) -> u64 {
     std::env::var(name).map_or(otherwise, |value| value.parse().unwrap_or_else(|_| panic!("{name} is a number")))
@@ -26,4 +26,13 @@ fn quick() {
 #[ignore = "takes minutes"]
 fn long() {
     try_seeds(from_env("BUOY_SEED", 1_000_000), from_env("BUOY_SEEDS", 100_000));
+}
+
+#[test]
+fn every_want_takes_the_fewest_askings() {
+    for seed in 1..=300 {
+        if let Err(failure) = fewest::of_input(&cases::in_plain_sight(seed)) {
+            panic!("seed {seed}: {failure}");
+        }
+    }
 }

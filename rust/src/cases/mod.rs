@@ -5,7 +5,12 @@
 mod garbage;
 mod hostile;
 mod pen;
+<<<<<<< HEAD
 pub mod plans;
+=======
+mod plain_sight;
+mod plans;
+>>>>>>> 3b96835ca675fb5dbf0c9b8cfd5cf937d0a5bb23
 mod wander;
 
 use crate::rng::Rng;
@@ -22,6 +27,13 @@ pub fn case(seed: u64) -> Vec<u8> {
         }
         one(&mut pen);
     }
+    pen.into_bytes()
+}
+
+/// The input of a seed, of one plan, in which whose turn it is and what stands on the board is known from what is printed.
+pub fn in_plain_sight(seed: u64) -> Vec<u8> {
+    let mut pen = Pen::new(Rng::new(seed));
+    plain_sight::script(&mut pen);
     pen.into_bytes()
 }
 

@@ -79,7 +79,7 @@ impl Pen {
     }
 
     /// A line that prints something and changes nothing.
-    fn mark(&mut self) {
+    pub fn mark(&mut self) {
         match self.rng.below(8) {
             0 => self.line("least"),
             1 => self.raw(b""),

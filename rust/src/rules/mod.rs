@@ -5,15 +5,15 @@
 
 mod account;
 mod askings;
-mod board;
+pub(crate) mod board;
 mod fault;
 mod judge;
-mod line;
+pub(crate) mod line;
 mod pace;
-mod plan;
-mod printed;
+pub(crate) mod plan;
+pub(crate) mod printed;
 mod script;
-mod users;
+pub(crate) mod users;
 
 pub use account::Account;
 pub use fault::{Broken, Fault};
