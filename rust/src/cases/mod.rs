@@ -5,12 +5,8 @@
 mod garbage;
 mod hostile;
 mod pen;
-<<<<<<< HEAD
-pub mod plans;
-=======
 mod plain_sight;
-mod plans;
->>>>>>> 3b96835ca675fb5dbf0c9b8cfd5cf937d0a5bb23
+pub mod plans;
 mod wander;
 
 use crate::rng::Rng;
