@@ -131,7 +131,7 @@ pub fn flaky(pen: &mut Pen) {
     let plan = if pen.rng.percent(50) { plans::random(&mut pen.rng) } else { plans::chain(pen.rng.from_to(2, 12)) };
     pen.plan(&plan);
     moods(pen, &plan, 40, 20);
-    if plan.len() == 0 {
+    if plan.is_empty() {
         return;
     }
     for _ in 0..pen.rng.from_to(5, 40) {
