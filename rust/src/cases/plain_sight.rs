@@ -32,7 +32,7 @@ fn some_plan(pen: &mut Pen) -> Plan {
     match rng.below(20) {
         0..14 => loop {
             let plan = plans::random(rng);
-            if plan.len() > 0 {
+            if !plan.is_empty() {
                 return plan;
             }
         },

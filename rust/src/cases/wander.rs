@@ -33,7 +33,7 @@ pub fn wandering(pen: &mut Pen, plan: &Plan) {
         for _ in 0..calls {
             call(pen, plan);
         }
-        if plan.len() > 0 && pen.rng.percent(4) {
+        if !plan.is_empty() && pen.rng.percent(4) {
             mood(pen, plan);
         }
         match pen.rng.below(60) {
