@@ -16,6 +16,8 @@ pub enum Event {
     Good(u32),
     Level(u32, u32),
     Lower(u32),
+    // what all parts draw
+    Drawn(u64),
     NoPlan,
     // which line of the input is none
     NoLine(u64),
@@ -34,6 +36,7 @@ pub impl fmt::Display for Event as EventDisplay {
             Event::Good(x) => write!(f, "good {x}"),
             Event::Level(x, level) => write!(f, "level {x} {level}"),
             Event::Lower(x) => write!(f, "lower {x}"),
+            Event::Drawn(sum) => write!(f, "{sum}"),
             Event::NoPlan => write!(f, "no plan"),
             Event::NoLine(number) => write!(f, "line {number}?"),
         }
