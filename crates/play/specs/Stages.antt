@@ -22,6 +22,8 @@ callsFor (line.Tick n) = cond (eqb n 0) None (Some Tick)
 callsFor (line.Bad x) = None
 callsFor (line.Slow x n) = None
 callsFor line.Least = None
+callsFor (line.Gives n) = None
+callsFor line.Drawn = None
 
 -- the ticks that are still to come after that
 abbrev pub ticksAfter : Line → ℕ → ℕ
@@ -35,3 +37,5 @@ ticksAfter (line.Tick n) t = cond (eqb n 0) t (n - 1)
 ticksAfter (line.Bad x) t = t
 ticksAfter (line.Slow x n) t = t
 ticksAfter line.Least t = t
+ticksAfter (line.Gives n) t = t
+ticksAfter line.Drawn t = t

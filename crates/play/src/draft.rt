@@ -25,7 +25,7 @@ pub enum Step {
 impl Draft {
     // No part yet.
     pub fn new() -> Draft
-        ensures { λ r. ⌜ (r .plan .parts ≡ 0) × (r .spoilt ≡ false) ⌝ }
+        ensures { λ r. ⌜ (r .plan .parts ≡ 0) × (r .plan .gives ≡ 4294967295) × (r .spoilt ≡ false) ⌝ }
     {
         Draft {
             plan: Plan::none(),
@@ -73,6 +73,7 @@ impl Draft {
         match line {
             Line::Part(x, part) => self.add(x, part),
             Line::Unfit(_) => self.spoil(),
+            Line::Gives(n) => self.plan.set_gives(n),
             Line::New => *self = Draft::new(),
             Line::Run => return Step::Whole,
             _ => return Step::Unclear,

@@ -48,6 +48,14 @@ impl<L: Lines, S: Say> Stage<'_, '_, '_, L, S> {
         }
     }
 
+    // What all parts draw now.
+    fn say_drawn(&mut self)
+        ensures { λ _. ⌜ (now (self .exit) .sim ≡ now (self .entry) .sim) × (now (self .exit) .ticks ≡ now (self .entry) .ticks) × (now (self .exit) .renewed ≡ now (self .entry) .renewed) ⌝ }
+    {
+        let sum = self.sim.drawn();
+        self.out.say(Event::Drawn(sum));
+    }
+
     // What a line of the script calls for now, if anything.
     fn heed(&mut self, line: Line) -> Option<Next>
         ensures board { λ _. ⌜ boardOf (now (self .exit) .sim) ≡ boardOf (now (self .entry) .sim) ⌝ }
@@ -70,6 +78,7 @@ impl<L: Lines, S: Say> Stage<'_, '_, '_, L, S> {
             Line::Bad(x) if x < self.sim.parts() => self.sim.bad(x),
             Line::Slow(x, n) if x < self.sim.parts() => self.sim.slow(x, n),
             Line::Least => self.say_least(),
+            Line::Drawn => self.say_drawn(),
             _ => self.unclear(),
         }
         None
@@ -97,6 +106,14 @@ pub impl<L: Lines, S: Say> Parts for Stage<'_, '_, '_, L, S> as StageParts {
 
     fn need_most(&self, x: u32, k: u32) -> u32 {
         self.sim.need_most(x, k)
+    }
+
+    fn draw(&self, x: u32, l: u32) -> u32 {
+        self.sim.draw(x, l)
+    }
+
+    fn gives(&self) -> u32 {
+        self.sim.gives()
     }
 
     fn raise(&mut self, x: u32) {

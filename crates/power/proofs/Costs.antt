@@ -6,8 +6,8 @@ use Prim.Native.Nat.{ℕ, _+_, _-_, _<_, _≤_}
 use native.Mathlib.Omega.{arith}
 use lib.Dec.{T, eqb, ltb}
 use Rattle.std.proofs.shelf.Tests.{cond-both, cond-true, cond-false, ne-eqb, lt-ltb}
-use Rattle.power.specs.Board.{Board, Part, Off, Rising, On, isOff, isOn, isRising, levelOf, put, withParts, Tries, good, notYet, raised, lowered, levelled}
-use Rattle.power.specs.Cost.{total, cost, costs, height, CostIsBounded, EachAskingPays}
+use Rattle.power.specs.Board.{Board, total, Part, Off, Rising, On, isOff, isOn, isRising, levelOf, put, withParts, Tries, good, notYet, raised, lowered, levelled}
+use Rattle.power.specs.Cost.{cost, costs, height, CostIsBounded, EachAskingPays}
 use Rattle.power.proofs.Puts.{put-here, put-other}
 use Rattle.power.proofs.Totals.{total-le, total-at}
 use Rattle.power.proofs.SoundLevels.{level-top}

@@ -13,7 +13,7 @@ use Rattle.power.specs.declared.types.CantBe.{CantBe}
 use Rattle.power.specs.Board.{Board, onOf, mostOf, andAlso, canBe}
 use Rattle.power.specs.Promise.{allowed'}
 use Rattle.power.specs.Least.{lv}
-use Rattle.power.specs.Found.{needsFit, Finds, FindsAims}
+use Rattle.power.specs.Found.{needsFit, partsFit, Finds, FindsAims}
 use Rattle.power.proofs.Tests.{and-r, and-i, every-at, every-of, is-true, is-false}
 use Rattle.power.proofs.Plain.{needs-fit-at, needs-fit-of}
 use Rattle.power.proofs.Sweeping.{nothing-at}
@@ -26,12 +26,12 @@ pub needs-unfit : (b : Board) (f : ℕ → ℕ) (x k y m : ℕ) → k < length (
 needs-unfit b f x k y m i ey em h = is-false (needsFit b f x) (λ t. omega (arith, needs-fit-at b f x t k i, ap f ey))
 
 -- OF ALL
-pub all-fit : (b : Board) (f : ℕ → ℕ) → ((x : ℕ) → f x ≤ 15) → ((x : ℕ) → x < b .parts → T (eqb (f x) 0 || needsFit b f x)) → true ≡ allowed' b f
-all-fit b f l h = is-true (allowed' b f) (every-of (b .parts) _ (λ x i. and-i (leb (f x) 15) _ (le→leb (f x) 15 (l x)) (h x i)))
+pub all-fit : (b : Board) (f : ℕ → ℕ) → ((x : ℕ) → f x ≤ 15) → ((x : ℕ) → x < b .parts → T (eqb (f x) 0 || needsFit b f x)) → true ≡ partsFit b f
+all-fit b f l h = is-true (partsFit b f) (every-of (b .parts) _ (λ x i. and-i (leb (f x) 15) _ (le→leb (f x) 15 (l x)) (h x i)))
 
-pub one-unfit : (b : Board) (f : ℕ → ℕ) (x : ℕ) (r : Bool) → x < b .parts → r ≡ (eqb (f x) 0 || needsFit b f x) → r ≡ false → false ≡ allowed' b f
+pub one-unfit : (b : Board) (f : ℕ → ℕ) (x : ℕ) (r : Bool) → x < b .parts → r ≡ (eqb (f x) 0 || needsFit b f x) → r ≡ false → false ≡ partsFit b f
 one-unfit b f x r i e n =
-    is-false (allowed' b f) (λ t. let no : T false = subst T (sym e ∙ n) (and-r (leb (f x) 15) _ (every-at (b .parts) _ t x i)) in no)
+    is-false (partsFit b f) (λ t. let no : T false = subst T (sym e ∙ n) (and-r (leb (f x) 15) _ (every-at (b .parts) _ t x i)) in no)
 
 -- OF THE LEAST: it's allowed exactly where what's wanted can be
 allowed-least : (b : Board) (want f : ℕ → ℕ) → ((x : ℕ) → f x ≡ lv b want x) → allowed' b f ≡ canBe b want

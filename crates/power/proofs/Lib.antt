@@ -4,6 +4,7 @@ pub mod AimsKept
 pub mod Asked
 pub mod Calls
 pub mod Costs
+pub mod Draws
 pub mod Fitted
 pub mod GivenBack
 pub mod Granting

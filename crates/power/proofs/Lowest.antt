@@ -14,6 +14,7 @@ use Rattle.power.specs.Aim.{Fits, Serves}
 use Rattle.power.specs.Least.{lv, FewerCanBe}
 use Rattle.power.proofs.Tests.{every-at}
 use Rattle.power.proofs.Plans.{plan-at}
+use Rattle.power.proofs.Draws.{draws-less}
 use Rattle.power.proofs.Asked.{asked-at, asked-le, length-levels, levels-wanted, levels-asked, levels-le, levels-same}
 use Rattle.power.proofs.Plain.{Wanted, serves-plainly, serves-of, allowed-plainly, allowed-of, fits-both, fits-serves}
 
@@ -90,6 +91,7 @@ can-by b want f g w t =
     (record {
       fifteen = λ x h. omega (arith, u x, t .fifteen x h);
       under = λ x k h p i. omega (arith, u (onOf k (b .needs x)), t .meets x k h (omega (arith, u x)) i .1);
+      draws = omega (arith, draws-less b (lv b want) f g (λ x h. u x) (t .fifteen), t .draws);
     })
 
 -- MORE AND LESS

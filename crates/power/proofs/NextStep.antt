@@ -5,15 +5,16 @@ use Prim.Native.Nat.{ℕ, _+_, _-_, _<_, _≤_}
 use native.Mathlib.Omega.{arith}
 use lib.Dec.{T, eqb}
 use lib.ListN.{length}
-use Rattle.power.specs.Board.{Board, onOf, leastOf, mostOf, isOff, isOn, levelOf, MayRaise, MayLower, MayLevel}
+use Rattle.power.specs.Board.{Board, Rising, On, onOf, leastOf, mostOf, isOff, isOn, levelOf, MayRaise, MayLower, MayLevel}
 use Rattle.power.specs.Aim.{Fits, Covers, Serves}
 use Rattle.power.specs.Sound.{Has, Sound}
 use Rattle.power.specs.Walk.{Below, Under, Reached, DownGoesOn, UpGoesOn}
 use Rattle.power.proofs.Tests.{or-l, or-r}
 use Rattle.power.proofs.Plans.{plan-at, least-one}
+use Rattle.power.proofs.Draws.{draws-put}
 use Rattle.power.proofs.Sheet.{served-of, suits-of, unneeded-of, keeps-of, eq→eqb}
-use Rattle.power.proofs.OnePart.{on-off, not-off, high-on}
-use Rattle.power.proofs.SoundLevels.{level-range}
+use Rattle.power.proofs.OnePart.{on-off, not-off, high-on, level-rising, level-on}
+use Rattle.power.proofs.SoundLevels.{level-range, level-top}
 
 -- DOWN
 module _ (b : Board) (t : ℕ → ℕ) (s : Sound b) (fit : Fits b t) (cov : Covers b t) (some : 0 < b .left) (y : ℕ) (hy : y < b .parts)
@@ -63,6 +64,7 @@ module _ (b : Board) (t : ℕ → ℕ) (s : Sound b) (fit : Fits b t) (cov : Cov
             let m : S ≤ mostOf k (b .needs x) = subst (λ (z : ℕ). levelOf (b .part z) ≤ mostOf k (b .needs x)) e (q .2) in
             (omega arith, omega arith)),
         keeps-of b y v (λ u l hu e. omega (arith, cov u y l hu e)),
+        draws-put b (λ z. levelOf (b .part z)) (s .plan) (level-top b s) (s .draws) (λ z _. omega arith) y (On v) (omega (arith, level-on v)),
       )
 
 pub down-goes-on : DownGoesOn
@@ -90,7 +92,7 @@ module _ (b : Board) (t l : ℕ → ℕ) (s : Sound b) (fit : Fits b t) (ser : S
       (through z zy .1 pos, omega arith, omega arith)
 
   may-raise : T (isOff (b .part y)) → 1 ≤ l y → MayRaise b y
-  may-raise off h = (some, hy, off, served-of (b .part) (b .needs y) 1 (met 1 h h))
+  may-raise off h = (some, hy, off, served-of (b .part) (b .needs y) 1 (met 1 h h), draws-put b t (s .plan) (fit .fifteen) (fit .draws) below y Rising (omega (arith, level-rising, under y hy)))
 
   may-level-up : T (isOn (b .part y)) → levelOf (b .part y) < l y → MayLevel b y (levelOf (b .part y) + 1)
   may-level-up on h =
@@ -111,6 +113,7 @@ module _ (b : Board) (t l : ℕ → ℕ) (s : Sound b) (fit : Fits b t) (ser : S
             let m : t y ≤ mostOf k (b .needs x) = subst (λ (z : ℕ). t z ≤ mostOf k (b .needs x)) e (fit .meets x k hx pos hk .1) in
             (omega arith, omega (arith, under y hy))),
         keeps-of b y v (λ u w hu e. omega (arith, s .holds u y w hu e .3)),
+        draws-put b t (s .plan) (fit .fifteen) (fit .draws) below y (On v) (omega (arith, level-on v, under y hy)),
       )
 
 pub up-goes-on : UpGoesOn

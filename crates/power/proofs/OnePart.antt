@@ -66,6 +66,10 @@ pub level-off : levelOf Off ≡ 0
 unfolding levelOf
 level-off = refl
 
+pub level-rising : levelOf Rising ≡ 1
+unfolding levelOf
+level-rising = refl
+
 pub level-on : (v : ℕ) → levelOf (On v) ≡ v
 unfolding levelOf
 level-on v = refl

@@ -5,10 +5,10 @@ use Prim.Native.Nat.{ℕ, zero, suc, _<_, _≤_}
 use native.Mathlib.Omega.{arith}
 use lib.Dec.{T, T-not, eqb, leb, leb→le, le→leb, eqb→eq, eqb-refl}
 use lib.ListN.{length}
-use Rattle.power.specs.Board.{Board, onOf, leastOf, mostOf, goodPlan}
+use Rattle.power.specs.Board.{Board, onOf, leastOf, mostOf, drawnAt, goodPlan}
 use Rattle.power.specs.Promise.{serves, allowed'}
 use Rattle.power.specs.Aim.{Fits, Serves}
-use Rattle.power.specs.Found.{needsFit}
+use Rattle.power.specs.Found.{needsFit, partsFit}
 use Rattle.power.proofs.Tests.{and-l, and-r, and-i, or-i, or-not, way, every-at, every-of, all-at, all-of}
 use Rattle.power.proofs.Plans.{plan-at, least-one}
 
@@ -16,10 +16,11 @@ use Rattle.power.proofs.Plans.{plan-at, least-one}
 abbrev pub Wanted : Board → (want f : ℕ → ℕ) → Type 0
 Wanted b want f = (x : ℕ) → x < b .parts → want x ≤ f x
 
--- none above 15, and none above what a part that isn't off allows
+-- none above 15, none above what a part that isn't off allows, and no more drawn than is given
 pub record Allowed (b : Board) (f : ℕ → ℕ) : Type 0 where
   pub fifteen : (x : ℕ) → x < b .parts → f x ≤ 15
   pub under : (x k : ℕ) → x < b .parts → 0 < f x → k < length (b .needs x) → f (onOf k (b .needs x)) ≤ mostOf k (b .needs x)
+  pub draws : drawnAt b f ≤ b .gives
 
 -- a level that isn't 0 fails the test for 0, and back
 not-zero : (l : ℕ) → 0 < l → T (not (eqb l 0))
@@ -65,26 +66,31 @@ needs-fit-of b f x h = all-of (allows f) (b .needs x) (λ k i. le→leb (f (onOf
 
 pub allowed-plainly : (b : Board) (f : ℕ → ℕ) → T (allowed' b f) → Allowed b f
 allowed-plainly b f t =
+    let D = leb (drawnAt b f) (b .gives) in
+    let each = every-at (b .parts) _ (and-l (partsFit b f) D t) in
     record {
-      fifteen = λ x h. leb→le (f x) 15 (and-l (leb (f x) 15) _ (every-at (b .parts) _ t x h));
-      under = λ x k h p i. needs-fit-at b f x (or-not (eqb (f x) 0) _ (and-r (leb (f x) 15) _ (every-at (b .parts) _ t x h)) (not-zero (f x) p)) k i;
+      fifteen = λ x h. leb→le (f x) 15 (and-l (leb (f x) 15) _ (each x h));
+      under = λ x k h p i. needs-fit-at b f x (or-not (eqb (f x) 0) _ (and-r (leb (f x) 15) _ (each x h)) (not-zero (f x) p)) k i;
+      draws = leb→le (drawnAt b f) (b .gives) (and-r (partsFit b f) D t);
     }
 
 pub allowed-of : (b : Board) (f : ℕ → ℕ) → Allowed b f → T (allowed' b f)
 allowed-of b f a =
-    every-of (b .parts) _
+    and-i (partsFit b f) (leb (drawnAt b f) (b .gives))
+    (every-of (b .parts) _
     (λ x h.
-    and-i (leb (f x) 15) _ (le→leb (f x) 15 (a .fifteen x h)) (or-i (eqb (f x) 0) _ (λ p. needs-fit-of b f x (λ k i. a .under x k h (above-zero (f x) p) i))))
+    and-i (leb (f x) 15) _ (le→leb (f x) 15 (a .fifteen x h)) (or-i (eqb (f x) 0) _ (λ p. needs-fit-of b f x (λ k i. a .under x k h (above-zero (f x) p) i)))))
+    (le→leb (drawnAt b f) (b .gives) (a .draws))
 
 -- FITS: both
 pub fits-both : (b : Board) (f : ℕ → ℕ) → Serves b f → Allowed b f → Fits b f
-fits-both b f s a = record { fifteen = a .fifteen; meets = λ x k h p i. (s x k h p i, a .under x k h p i) }
+fits-both b f s a = record { fifteen = a .fifteen; meets = λ x k h p i. (s x k h p i, a .under x k h p i); draws = a .draws }
 
 pub fits-serves : (b : Board) (f : ℕ → ℕ) → Fits b f → Serves b f
 fits-serves b f t x k h p i = t .meets x k h p i .0
 
 pub fits-allowed : (b : Board) (f : ℕ → ℕ) → Fits b f → Allowed b f
-fits-allowed b f t = record { fifteen = t .fifteen; under = λ x k h p i. t .meets x k h p i .1 }
+fits-allowed b f t = record { fifteen = t .fifteen; under = λ x k h p i. t .meets x k h p i .1; draws = t .draws }
 
 -- what's needed by a part that isn't off isn't off
 pub serves-on : (b : Board) (f : ℕ → ℕ) → T (goodPlan b) → Serves b f → (x k : ℕ) → x < b .parts → 0 < f x → f x ≤ 15 → k < length (b .needs x) → 0 < f (onOf k (b .needs x))

@@ -1,4 +1,4 @@
--- What a plan that makes sense says of each need. Assumes nothing.
+-- What a plan that makes sense says of each need, and of what is drawn. Assumes nothing.
 use mathlib.Core.Path.{_≡_}
 use mathlib.Core.Bool.{_&&_}
 use mathlib.Core.List.{List, [], _∷_}
@@ -7,7 +7,7 @@ use native.Mathlib.Nat.{not-suc-le-zero, le-of-suc-le-suc}
 use native.Mathlib.Omega.{arith}
 use lib.Dec.{T, eqb, ltb, leb, leb→le, ltb→lt, eqb→eq}
 use lib.ListN.{length, getD}
-use Rattle.power.specs.Board.{Board, Need, onOf, leastOf, mostOf, all, leastAt, rising, goodNeed, goodPlan, apart}
+use Rattle.power.specs.Board.{Board, Need, onOf, leastOf, mostOf, all, leastAt, rising, goodNeed, goodDraw, goodPlan, apart, drawAt}
 use Rattle.power.proofs.Tests.{and-l, and-r, every-at}
 
 -- what's `rising` never falls
@@ -69,7 +69,27 @@ plan-at b t x h k l =
     let G = all (goodNeed x) (b .needs x) in
     let A = apart (b .needs x) in
     let L = leb (length (b .needs x)) 4 in
-    good-at x (b .needs x) (and-l G A (and-l (G && A) L (every-at (b .parts) _ t x h))) k l
+    let D = goodDraw (b .draws x) in
+    good-at x (b .needs x) (and-l G A (and-l (G && A) L (and-l (G && A && L) D (every-at (b .parts) _ t x h)))) k l
+
+-- and of what it draws
+pub record DrawsWell (b : Board) (x : ℕ) : Type 0 where
+  pub zeroth : drawAt b x 0 ≡ 0
+  pub climbs : (l l' : ℕ) → l ≤ l' → l' < 16 → drawAt b x l ≤ drawAt b x l'
+
+pub plan-draws : (b : Board) → T (goodPlan b) → (x : ℕ) → x < b .parts → DrawsWell b x
+plan-draws b t x h =
+    let N = all (goodNeed x) (b .needs x) && apart (b .needs x) && leb (length (b .needs x)) 4 in
+    let ds = b .draws x in
+    let A = eqb (length ds) 16 in
+    let B = rising ds in
+    let C = eqb (getD ds 0 0) 0 in
+    let g = and-r N (goodDraw ds) (every-at (b .parts) _ t x h) in
+    let len : length ds ≡ 16 = eqb→eq (length ds) 16 (and-l A B (and-l (A && B) C g)) in
+    record {
+      zeroth = eqb→eq (getD ds 0 0) 0 (and-r (A && B) C g);
+      climbs = λ l l' i j. rises ds (and-r A B (and-l (A && B) C g)) l l' i (omega arith);
+    }
 
 -- at a level from 1 to 15, each need is at 1 or more
 pub least-one : (x : ℕ) (ns : List Need) (k l : ℕ) → GoodAt x ns k → 1 ≤ l → l < 16 → 1 ≤ leastOf k l ns

@@ -37,7 +37,7 @@ module _ (b : Board) (f : ℕ → ℕ) (s : Sound b) (e : (y : ℕ) → f y ≡ 
     same-least : (b' : Board) → OnlyParts b b' → _≡_ {A = ℕ → ℕ} (at to) (lv b' (granted b'))
     same-least b' o =
         let B : ℕ → (ℕ → List Need) → (ℕ → Wish) → Board =
-        λ n ns ws. record { parts = n; needs = ns; part = b' .part; tried = b' .tried; wish = ws; quiet = b' .quiet; left = b' .left } in
+        λ n ns ws. record { parts = n; needs = ns; draws = b' .draws; gives = b' .gives; part = b' .part; tried = b' .tried; wish = ws; quiet = b' .quiet; left = b' .left } in
         let L : ℕ → (ℕ → List Need) → (ℕ → Wish) → ℕ → ℕ = λ n ns ws y. lv (B n ns ws) (granted (B n ns ws)) y in
         found-is b (granted b) to granted-found
         ∙ sym (ap (λ (n : ℕ). L n (b' .needs) (b' .wish)) (o .parts)

@@ -1,20 +1,21 @@
 -- What a sound board's own levels are: in range, serving what was granted, allowed. Assumes nothing.
 use mathlib.Core.Path.{_≡_, refl}
 use mathlib.Core.Logic.{inl, inr}
-use mathlib.Core.Bool.{Bool, not}
+use mathlib.Core.Bool.{not}
 use Prim.Native.Nat.{ℕ, _<_, _≤_}
 use native.Mathlib.Nat.{le-antisymm}
 use native.Mathlib.Omega.{arith}
-use lib.Dec.{T, eqb, leb, T-not, le→leb}
-use lib.ListN.{length, getD}
-use Rattle.std.proofs.shelf.Tests.{cases-eq, cases-lt}
-use Rattle.power.specs.Board.{Board, Part, Off, Rising, On, onOf, leastOf, mostOf, isOff, levelOf, granted, leastLevels, canBe, lean}
+use lib.Dec.{T, le→leb}
+use lib.ListN.{getD}
+use Rattle.std.proofs.shelf.Tests.{cases-lt}
+use Rattle.power.specs.Board.{Board, Part, Off, Rising, On, isOff, levelOf, granted, leastLevels, canBe, lean}
 use Rattle.power.specs.Promise.{LeastIsLeast, CannotBe}
 use Rattle.power.specs.Aim.{Covers}
 use Rattle.power.specs.Sound.{Sound, SoundServes}
 use Rattle.power.specs.Walk.{Below}
-use Rattle.power.proofs.Tests.{and-i, or-i, every-of, all-of}
+use Rattle.power.proofs.Tests.{every-of}
 use Rattle.power.proofs.Sheet.{eq→eqb}
+use Rattle.power.proofs.Plain.{serves-of, allowed-of}
 use Rattle.power.proofs.Larger.{granted-at, granted-le}
 use Rattle.power.proofs.OnePart.{not-off}
 
@@ -34,33 +35,11 @@ level-top b s x hx =
       | inr h ↦ omega arith
     ]
 
--- each need of a part that has a level is met
-met : (b : Board) → Sound b → (x k : ℕ) → x < b .parts → T (not (eqb (levelOf (b .part x)) 0)) → k < length (b .needs x) →
-    (leastOf k (levelOf (b .part x)) (b .needs x) ≤ levelOf (b .part (onOf k (b .needs x)))) × (levelOf (b .part (onOf k (b .needs x))) ≤ mostOf k (b .needs x))
-met b s x k hx t hk =
-    let l = levelOf (b .part x) in
-    let pos : 0 < l = elim (cases-eq l 0) [ inl e ↦ absurd (T-not (eqb l 0) t (eq→eqb l 0 e)) | inr ne ↦ omega arith ] in
-    let h = s .has x k hx (not-off (b .part x) pos) hk in
-    (h .1, h .2)
-
-serves-one : (ℕ → ℕ) → ℕ → ℕ → (ℕ → ℕ) → ℕ → Bool
-serves-one f l o ls m = leb (ls l) (f o)
-
-allows-one : (ℕ → ℕ) → ℕ → (ℕ → ℕ) → ℕ → Bool
-allows-one f o ls m = leb (f o) m
-
 pub sound-serves : SoundServes
-unfolding serves-one allows-one
 sound-serves b s =
     let f : ℕ → ℕ = λ x. levelOf (b .part x) in (
-      every-of (b .parts) _ (λ x hx.
-          and-i (leb (granted b x) (f x)) _ (le→leb (granted b x) (f x) (granted-le b x (f x) (λ u l hu e. s .holds u x l hu e .3)))
-          (or-i (eqb (f x) 0) _ (λ t. all-of (serves-one f (f x)) (b .needs x) (λ k hk.
-          le→leb (leastOf k (f x) (b .needs x)) (f (onOf k (b .needs x))) (met b s x k hx t hk .0))))),
-      every-of (b .parts) _ (λ x hx.
-          and-i (leb (f x) 15) _ (le→leb (f x) 15 (level-top b s x hx))
-          (or-i (eqb (f x) 0) _ (λ t. all-of (allows-one f) (b .needs x) (λ k hk.
-          le→leb (f (onOf k (b .needs x))) (mostOf k (b .needs x)) (met b s x k hx t hk .1))))),
+      serves-of b (granted b) f (λ x hx. granted-le b x (f x) (λ u l hu e. s .holds u x l hu e .3)) (λ x k hx p hk. s .has x k hx (not-off (b .part x) p) hk .1),
+      allowed-of b f (record { fifteen = level-top b s; under = λ x k hx p hk. s .has x k hx (not-off (b .part x) p) hk .2; draws = s .draws }),
       every-of (b .parts) _ (λ x hx. le→leb (f x) 15 (level-top b s x hx)),
     )
 

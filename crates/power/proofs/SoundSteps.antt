@@ -8,10 +8,12 @@ use native.Mathlib.Omega.{arith}
 use lib.Dec.{T}
 use lib.ListN.{length}
 use Rattle.std.proofs.shelf.Tests.{cases-eq}
-use Rattle.power.specs.Board.{Board, Need, Part, Off, Rising, On, Granted, onOf, leastOf, mostOf, isOff, isOn, isRising, levelOf, put, withParts, MayRaise, MayLower, MayLevel, Tries, good, notYet, raised, lowered, levelled}
+use Rattle.power.specs.Board.{Board, Need, Part, Off, Rising, On, Granted, onOf, leastOf, mostOf, isOff, isOn, isRising, levelOf, put, drawn, withParts, MayRaise, MayLower, MayLevel, Tries, good, notYet, raised, lowered, levelled}
 use Rattle.power.specs.Sound.{Has, Sound, StepsKeepSound}
 use Rattle.power.proofs.Plans.{plan-at}
 use Rattle.power.proofs.Puts.{put-same, put-other, put-each}
+use Rattle.power.proofs.Draws.{draws-put}
+use Rattle.power.proofs.SoundLevels.{level-top}
 use Rattle.power.proofs.OnePart.{off-on, rising-on, rising-off, rising-level}
 use Rattle.power.proofs.Sheet.{served-at, suits-at, unneeded-at, keeps-at}
 
@@ -31,7 +33,8 @@ module _ (b : Board) (s : Sound b) (x : ℕ) (p : Part) (t : ℕ → ℕ)
     (users : (y k : ℕ) → y < b .parts → T (not (isOff (b .part y))) → k < length (b .needs y) → onOf k (b .needs y) ≡ x →
     T (isOn p) × (leastOf k (levelOf (b .part y)) (b .needs y) ≤ levelOf p) × (levelOf p ≤ mostOf k (b .needs y)))
     (within : (l : ℕ) → p ≡ On l → (1 ≤ l) × (l ≤ 15))
-    (held : (u l : ℕ) → u < 32 → b .wish u ≡ Granted x l → T (isOn p) × (l ≤ levelOf p)) where
+    (held : (u l : ℕ) → u < 32 → b .wish u ≡ Granted x l → T (isOn p) × (l ≤ levelOf p))
+    (given : drawn b (put x p (b .part)) ≤ b .gives) where
   has' : (y k : ℕ) → y < b .parts → T (not (isOff (put x p (b .part) y))) → k < length (b .needs y) → Has (put x p (b .part)) (b .needs y) k (levelOf (put x p (b .part) y))
   has' y k hy off hk =
       let f = b .part in
@@ -67,7 +70,7 @@ module _ (b : Board) (s : Sound b) (x : ℕ) (p : Part) (t : ℕ → ℕ)
       (old .0, old .1, r .0, r .1)
 
   sound-put : Sound (withParts (put x p (b .part)) t b)
-  sound-put = record { plan = s .plan; has = has'; range = range'; asks = s .asks; holds = holds' }
+  sound-put = record { plan = s .plan; has = has'; range = range'; draws = given; asks = s .asks; holds = holds' }
 
 -- nothing that isn't off needs a part that isn't on
 unneeded : (b : Board) → Sound b → (x : ℕ) → (T (isOn (b .part x)) → ⊥) →
@@ -83,6 +86,11 @@ sound-raised b s x m =
     (λ y k hy off hk e. absurd (unneeded b s x isnt y k hy off hk e))
     (λ l e. absurd (subst (λ (q : Part). T (isOn q)) (sym e) tt))
     (λ u l hu e. absurd (isnt (s .holds u x l hu e .2)))
+    (m .4)
+
+-- what's drawn with a part no higher than it was
+draws-lower : (b : Board) → Sound b → (x : ℕ) (p : Part) → levelOf p ≤ levelOf (b .part x) → drawn b (put x p (b .part)) ≤ b .gives
+draws-lower b s x p h = draws-put b (λ z. levelOf (b .part z)) (s .plan) (level-top b s) (s .draws) (λ z _. omega arith) x p h
 
 sound-good : (b : Board) → Sound b → (x : ℕ) → x < b .parts → T (isRising (b .part x)) → Sound (withParts (put x (On 1) (b .part)) (b .tried) b)
 unfolding isOff isOn levelOf
@@ -93,10 +101,11 @@ sound-good b s x hx r =
     (λ y k hy off hk e. absurd (unneeded b s x isnt y k hy off hk e))
     (λ l e. let d : 1 ≡ l = ap levelOf e in (omega arith, omega arith))
     (λ u l hu e. absurd (isnt (s .holds u x l hu e .2)))
+    (draws-lower b s x (On 1) (omega (arith, rising-level (b .part x) r)))
 
 pub sound-tries : (b : Board) → Sound b → (x : ℕ) (r : Bool) (b' : Board) → x < b .parts → Tries b x r b' → Sound b'
 sound-tries b s x r b' hx (good t) = sound-good b s x hx t
-sound-tries b s x r b' hx (notYet t) = record { plan = s .plan; has = s .has; range = s .range; asks = s .asks; holds = s .holds }
+sound-tries b s x r b' hx (notYet t) = record { plan = s .plan; has = s .has; range = s .range; draws = s .draws; asks = s .asks; holds = s .holds }
 
 pub sound-lowered : (b : Board) → Sound b → (x : ℕ) → MayLower b x → Sound (lowered x b)
 unfolding isOff isOn levelOf
@@ -106,6 +115,7 @@ sound-lowered b s x m =
     (λ y k hy off hk e. absurd (unneeded-at b x (m .3) y k hy off hk e))
     (λ l e. absurd (subst (λ (q : Part). T (isOn q)) (sym e) tt))
     (λ u l hu e. absurd (omega (arith, keeps-at b x 0 (m .4) u l hu e, s .holds u x l hu e .1)))
+    (draws-lower b s x Off (omega arith))
 
 pub sound-levelled : (b : Board) → Sound b → (x v : ℕ) → MayLevel b x v → Sound (levelled x v b)
 unfolding isOff isOn levelOf
@@ -115,6 +125,7 @@ sound-levelled b s x v m =
     (λ y k hy off hk e. let r = suits-at b x v (m .7) y k hy off hk e in (tt, r .0, r .1))
     (λ l e. let d : v ≡ l = ap levelOf e in (omega (arith, m .3), omega (arith, m .4)))
     (λ u l hu e. (tt, keeps-at b x v (m .8) u l hu e))
+    (m .9)
 
 pub steps-keep-sound : StepsKeepSound
 steps-keep-sound b s = (sound-raised b s, sound-tries b s, sound-lowered b s, sound-levelled b s)

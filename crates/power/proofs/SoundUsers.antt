@@ -14,6 +14,7 @@ use Rattle.power.specs.declared.Answer.the-variants.{Done, No}
 use Rattle.power.specs.Board.{Board, Part, Wish, None', Asked, Granted, isOff, isOn, isNone, levelOf, put, withWish, why, called, mayTell, mayTellOf, told, toldOf, isSix, ticked, AtStart}
 use Rattle.power.specs.Sound.{Sound, UsersKeepSound}
 use Rattle.power.proofs.Tests.{and-l, and-r}
+use Rattle.power.proofs.Draws.{draws-nothing}
 use Rattle.power.proofs.Puts.{put-each}
 use Rattle.power.proofs.OneWish.{granted-asked, none-granted, none-asked, older-granted, older-asked}
 
@@ -33,6 +34,7 @@ sound-start b a =
       plan = a .1;
       has = λ x k hx off hk. absurd (subst (λ (q : Part). T (not (isOff q))) (a .2 x .0) off);
       range = λ x l hx e. absurd (subst (λ (q : Part). T (isOn q)) (sym e ∙ a .2 x .0) tt);
+      draws = omega (arith, draws-nothing b (a .1) (λ x. a .2 x .0));
       asks = λ u x l g hu e. absurd (nobody u (Asked x l g) tt e);
       holds = λ u x l hu e. absurd (nobody u (Granted x l) tt e);
     }
@@ -41,13 +43,14 @@ sound-start b a =
 module _ (b : Board) (s : Sound b) (u : ℕ) (w : Wish) (t : ℕ → ℕ) (q n : ℕ)
     (asked : (x l a : ℕ) → w ≡ Asked x l a → (x < b .parts) × (1 ≤ l) × (l ≤ 15))
     (held : (x l : ℕ) → w ≡ Granted x l → (x < b .parts) × (1 ≤ l) × T (isOn (b .part x)) × (l ≤ levelOf (b .part x))) where
-  sound-wish : Sound (record { parts = b .parts; needs = b .needs; part = b .part; tried = t; wish = put u w (b .wish); quiet = q; left = n })
+  sound-wish : Sound (record { parts = b .parts; needs = b .needs; draws = b .draws; gives = b .gives; part = b .part; tried = t; wish = put u w (b .wish); quiet = q; left = n })
   unfolding Held Named
   sound-wish =
       record {
         plan = s .plan;
         has = s .has;
         range = s .range;
+        draws = s .draws;
         asks = λ v x l a hv. put-each (λ (i : ℕ) (z : Wish). z ≡ Asked x l a → Named b x l) u w (b .wish) v (λ _. asked x l a) (λ _. s .asks v x l a hv);
         holds = λ v x l hv. put-each (λ (i : ℕ) (z : Wish). z ≡ Granted x l → Held b x l) u w (b .wish) v (λ _. held x l) (λ _. s .holds v x l hv);
       }
@@ -91,6 +94,7 @@ sound-ticked b s =
       plan = s .plan;
       has = s .has;
       range = s .range;
+      draws = s .draws;
       asks = λ u x l a hu e. let r = older-asked (b .wish u) x l a e in s .asks u x l (r .0) hu (r .1);
       holds = λ u x l hu e. s .holds u x l hu (older-granted (b .wish u) x l e);
     }

@@ -21,7 +21,7 @@ down-start b t s f c = record { sound = s; fits = f; covers = c; through = λ z 
 
 -- a target asks only of the plan: the record anew, with the same fields
 fits-with : (b : Board) (t : ℕ → ℕ) (p : ℕ → Part) (n : ℕ → ℕ) → Fits b t → Fits (withParts p n b) t
-fits-with b t p n f = record { fifteen = f .fifteen; meets = f .meets }
+fits-with b t p n f = record { fifteen = f .fifteen; meets = f .meets; draws = f .draws }
 
 down-put : (b : Board) (t : ℕ → ℕ) (y : ℕ) (p : Part) (n : ℕ → ℕ) → Down b t (y + 1) → Sound (withParts (put y p (b .part)) n b) → Down (withParts (put y p (b .part)) n b) t (y + 1)
 down-put b t y p n d s =

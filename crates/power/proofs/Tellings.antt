@@ -38,15 +38,19 @@ tell-six b x v g y t hy s =
 -- the same after a walk
 pub can-only : (b b' : Board) (x v : ℕ) → OnlyParts b b' → T (canBe b (andAlso (granted b) x v)) → T (canBe b' (andAlso (granted b') x v))
 can-only b b' x v o t =
-    let B : ℕ → (ℕ → List Need) → (ℕ → Wish) → Board =
-    λ n ns ws. record { parts = n; needs = ns; part = b' .part; tried = b' .tried; wish = ws; quiet = b' .quiet; left = b' .left } in
-    let P : ℕ → (ℕ → List Need) → (ℕ → Wish) → Type 0 = λ n ns ws. T (canBe (B n ns ws) (andAlso (granted (B n ns ws)) x v)) in
-    subst (λ (n : ℕ). P n (b' .needs) (b' .wish)) (sym (o .parts))
-    (subst (λ (ns : ℕ → List Need). P (b .parts) ns (b' .wish)) (sym (o .needs)) (subst (λ (ws : ℕ → Wish). P (b .parts) (b .needs) ws) (sym (o .wish)) t))
+    let P : ℕ → (ℕ → List Need) → (ℕ → List ℕ) → ℕ → (ℕ → Wish) → Type 0 =
+    λ n ns ds m ws.
+        let c : Board = record { parts = n; needs = ns; draws = ds; gives = m; part = b' .part; tried = b' .tried; wish = ws; quiet = b' .quiet; left = b' .left } in
+        T (canBe c (andAlso (granted c) x v)) in
+    subst (λ (n : ℕ). P n (b' .needs) (b' .draws) (b' .gives) (b' .wish)) (sym (o .parts))
+    (subst (λ (ns : ℕ → List Need). P (b .parts) ns (b' .draws) (b' .gives) (b' .wish)) (sym (o .needs))
+    (subst (λ (ds : ℕ → List ℕ). P (b .parts) (b .needs) ds (b' .gives) (b' .wish)) (sym (o .draws))
+    (subst (λ (m : ℕ). P (b .parts) (b .needs) (b .draws) m (b' .wish)) (sym (o .gives))
+    (subst (λ (ws : ℕ → Wish). P (b .parts) (b .needs) (b .draws) (b .gives) ws) (sym (o .wish)) t))))
 
 pub goal-only : (b b' : Board) (x v : ℕ) → OnlyParts b b' → _≡_ {A = ℕ → ℕ} (goal b' x v) (goal b x v)
 goal-only b b' x v o =
     let B : ℕ → (ℕ → List Need) → Board =
-    λ n ns. record { parts = n; needs = ns; part = b' .part; tried = b' .tried; wish = b' .wish; quiet = b' .quiet; left = b' .left } in
+    λ n ns. record { parts = n; needs = ns; draws = b' .draws; gives = b' .gives; part = b' .part; tried = b' .tried; wish = b' .wish; quiet = b' .quiet; left = b' .left } in
     let G : ℕ → (ℕ → List Need) → ℕ → ℕ = λ n ns y. goal (B n ns) x v y in
     ap (λ (n : ℕ). G n (b' .needs)) (o .parts) ∙ ap (λ (ns : ℕ → List Need). G (b .parts) ns) (o .needs)

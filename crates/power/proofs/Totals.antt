@@ -1,16 +1,27 @@
--- Totals over parts: their bound, and one part that changes. Assumes nothing.
+-- Totals over parts: their bound, one over another, and one part that changes. Assumes nothing.
 use mathlib.Core.Path.{_≡_, refl, sym, ap}
 use mathlib.Core.Logic.{inl, inr, _≢_}
 use Prim.Native.Nat.{ℕ, zero, suc, _+_, _*_, _<_, _≤_}
 use native.Mathlib.Nat.{mul-suc}
+use native.Mathlib.Numerals.{add-one}
 use native.Mathlib.Omega.{arith}
 use Rattle.std.proofs.shelf.Tests.{cases-eq}
-use Rattle.power.specs.Cost.{total}
+use Rattle.power.specs.Board.{total}
 
 pub total-le : (n c : ℕ) (f : ℕ → ℕ) → ((x : ℕ) → x < n → f x ≤ c) → total n f ≤ c * n
 unfolding total
 total-le zero c f h = omega arith
 total-le (suc n) c f h = omega (arith, total-le n c f (λ x l. h x (omega arith)), h n (omega arith), mul-suc c n)
+
+pub total-next : (n : ℕ) (f : ℕ → ℕ) → total (n + 1) f ≡ total n f + f n
+unfolding total
+total-next n f = rw add-one
+
+-- f is nowhere above g
+pub total-more : (n : ℕ) (f g : ℕ → ℕ) → ((x : ℕ) → x < n → f x ≤ g x) → total n f ≤ total n g
+unfolding total
+total-more zero f g h = omega arith
+total-more (suc n) f g h = omega (arith, total-more n f g (λ x l. h x (omega arith)), h n (omega arith))
 
 total-same : (n : ℕ) (f g : ℕ → ℕ) → ((j : ℕ) → j < n → g j ≡ f j) → total n g ≡ total n f
 unfolding total

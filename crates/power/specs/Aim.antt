@@ -4,12 +4,13 @@
 use mathlib.Core.Path.{_≡_}
 use Prim.Native.Nat.{ℕ, _<_, _≤_}
 use lib.ListN.{length}
-use Rattle.power.specs.Board.{Board, Granted, onOf, leastOf, mostOf}
+use Rattle.power.specs.Board.{Board, Granted, onOf, leastOf, mostOf, drawnAt}
 
--- They fit: none above 15, each part that isn't off there has what it needs, within what it allows.
+-- They fit: none above 15, each part that isn't off there has what it needs, within what it allows, and no more is drawn there than is given.
 pub record Fits (b : Board) (t : ℕ → ℕ) : Type 0 where
   pub fifteen : (x : ℕ) → x < b .parts → t x ≤ 15
   pub meets : (x k : ℕ) → x < b .parts → 0 < t x → k < length (b .needs x) → (leastOf k (t x) (b .needs x) ≤ t (onOf k (b .needs x))) × (t (onOf k (b .needs x)) ≤ mostOf k (b .needs x))
+  pub draws : drawnAt b t ≤ b .gives
 
 -- nobody was granted more
 abbrev pub Covers : Board → (ℕ → ℕ) → Type 0

@@ -2,14 +2,10 @@
 -- Assumes nothing.
 use mathlib.Core.Path.{_≡_}
 use mathlib.Core.Bool.{Bool, cond}
-use Prim.Native.Nat.{ℕ, zero, suc, _+_, _-_, _<_, _≤_}
+use Prim.Native.Nat.{ℕ, _+_, _-_, _<_, _≤_}
 use lib.Dec.{T, eqb}
-use Rattle.power.specs.Board.{Board, Part, Off, Rising, On, isOff, isOn, levelOf, Tries, raised, lowered, levelled}
+use Rattle.power.specs.Board.{Board, Part, Off, Rising, On, isOff, isOn, levelOf, total, Tries, raised, lowered, levelled}
 use Rattle.power.specs.Sound.{Sound}
-
-unfoldable pub total : ℕ → (ℕ → ℕ) → ℕ
-total zero f = 0
-total (suc n) f = total n f + f n
 
 -- of one part, found not to be good so many times, on its way to level l; 0 is off
 unfoldable pub cost : Part → ℕ → ℕ → ℕ

@@ -1,4 +1,4 @@
--- Examples on one plan of four parts: what is least, what can't be, and which calls are turned away.
+-- Examples on one plan of four parts: what is least, what can't be, also for what is drawn alone, and which calls are turned away.
 -- Assumes nothing.
 use mathlib.Core.Bool.{Bool, true, false, _&&_, not}
 use mathlib.Core.List.{List, [], _∷_}
@@ -26,7 +26,11 @@ plan =
     ∷ []
 
 abbrev pub start : Board
-start = record { parts = 4; needs = λ x. getD plan x []; part = λ x. Off; tried = λ x. 0; wish = λ u. None'; quiet = 0; left = 1024 }
+start = record { parts = 4; needs = λ x. getD plan x []; draws = λ x. replicate 16 0; gives = 0; part = λ x. Off; tried = λ x. 0; wish = λ u. None'; quiet = 0; left = 1024 }
+
+-- the same parts, each drawing 1 at 1, 2 at 2 and 5 from 3 on, of 7 that are given
+abbrev pub drawing : Board
+drawing = record { parts = 4; needs = λ x. getD plan x []; draws = λ x. from 1 2 5; gives = 7; part = λ x. Off; tried = λ x. 0; wish = λ u. None'; quiet = 0; left = 1024 }
 
 -- wants: none, and one
 abbrev pub nothing : ℕ → ℕ
@@ -41,15 +45,20 @@ sameList [] (y ∷ ys) = false
 sameList (x ∷ xs) [] = false
 sameList (x ∷ xs) (y ∷ ys) = eqb x y && sameList xs ys
 
--- these are the least levels, and can be; it can't be; the call is answered by this number, 0 if it's taken
+-- these are the least levels, and can be; it can't be; what's given is enough; it is not, though else it could be;
+-- the call is answered by this number, 0 if it's taken
 pub data Example : Type 0 where
   least : (want : ℕ → ℕ) (is : List ℕ) → Example
   cannot : (want : ℕ → ℕ) → Example
+  enough : (want : ℕ → ℕ) → Example
+  tooMuch : (want : ℕ → ℕ) → Example
   answered : (before : Board) (call : Call) (by : ℕ) → Example
 
 abbrev pub holds : Example → Bool
 holds (least want is) = canBe start want && sameList (leastLevels start want) is
 holds (cannot want) = not (canBe start want)
+holds (enough want) = canBe drawing want
+holds (tooMuch want) = canBe start want && not (canBe drawing want)
 holds (answered before call k) = eqb (why call before) k
 
 abbrev pub allHold : List Example → Bool
@@ -65,6 +74,11 @@ examples =
     ∷ cannot (andAlso (only 2 1) 3 1)
     ∷ cannot (andAlso (only 1 1) 0 7)
     ∷ cannot (only 0 16)
+    ∷ enough (andAlso (only 1 2) 2 1)
+    ∷ enough (andAlso (only 1 2) 0 3)
+    ∷ enough (andAlso (only 2 1) 0 3)
+    ∷ tooMuch (andAlso (andAlso (only 1 2) 2 1) 0 3)
+    ∷ tooMuch (only 3 1)
     ∷ answered start (Want 32 0 1) 1
     ∷ answered start (Want 0 4 1) 1
     ∷ answered start (Want 0 0 0) 1
@@ -77,4 +91,4 @@ examples =
     ∷ []
 
 abbrev pub ExamplesHold : Type 0
-ExamplesHold = T (goodPlan start) × T (allHold examples)
+ExamplesHold = T (goodPlan start) × T (goodPlan drawing) × T (allHold examples)

@@ -1,16 +1,16 @@
 -- What code tells of the least: of a part's needs, of the levels it finds, and of levels to aim at.
 -- Assumes nothing.
 use mathlib.Core.Path.{_≡_}
-use mathlib.Core.Bool.{Bool, not}
+use mathlib.Core.Bool.{Bool, _&&_, _||_, not}
 use mathlib.Core.List.{List}
 use Prim.Native.Nat.{ℕ, _<_, _≤_}
-use lib.Dec.{T, leb}
+use lib.Dec.{T, eqb, leb}
 use Rattle.std.specs.declared.result.Result.{Result}
 use Rattle.std.specs.Results.{Cases}
 use Rattle.power.specs.declared.types.Levels.{Levels}
 use Rattle.power.specs.declared.types.Aims.{Aims}
 use Rattle.power.specs.declared.types.CantBe.{CantBe}
-use Rattle.power.specs.Board.{Board, Need, all, onOf, leastOf, canBe, andAlso}
+use Rattle.power.specs.Board.{Board, Need, every, all, onOf, leastOf, canBe, andAlso}
 use Rattle.power.specs.Least.{lv}
 use Rattle.power.specs.Tables.{at}
 
@@ -23,6 +23,10 @@ pub record Pushed (ns : List Need) (l k : ℕ) (f to : ℕ → ℕ) : Type 0 whe
 -- no need of x is higher than x allows
 abbrev pub needsFit : Board → (ℕ → ℕ) → ℕ → Bool
 needsFit b f x = all (λ (n : Need). leb (f (n .on)) (n .most)) (b .needs x)
+
+-- the same of every part that isn't off, and none is above 15; what's drawn wasn't looked at
+abbrev pub partsFit : Board → (ℕ → ℕ) → Bool
+partsFit b f = every (b .parts) (λ (x : ℕ). leb (f x) 15 && (eqb (f x) 0 || needsFit b f x))
 
 -- the least levels, none above 15; what's allowed wasn't looked at yet
 pub record Swept (b : Board) (want : ℕ → ℕ) (ls : Levels) : Type 0 where

@@ -15,6 +15,8 @@ use Rattle.power.specs.declared.state.Progress.the-variants.{Through, Spent, S
 pub record OnlyParts (b b' : Board) : Type 0 where
   pub parts : b' .parts ≡ b .parts
   pub needs : b' .needs ≡ b .needs
+  pub draws : b' .draws ≡ b .draws
+  pub gives : b' .gives ≡ b .gives
   pub wish : b' .wish ≡ b .wish
   pub quiet : b' .quiet ≡ b .quiet
 

@@ -2,13 +2,13 @@
 ghost use mathlib.Core.Path.{_≡_};
 ghost use mathlib.Core.Bool.{not, _||_};
 ghost use Prim.Native.Nat.{ℕ, _<_, _≤_};
-ghost use lib.Dec.{T, eqb};
+ghost use lib.Dec.{T, eqb, leb};
 ghost use lib.ListN.{length};
 ghost use Rattle.std.specs.Results.{Cases};
-ghost use Rattle.power.specs.Board.{goodPlan, canBe, onOf, leastOf, andAlso};
+ghost use Rattle.power.specs.Board.{goodPlan, canBe, drawnAt, onOf, leastOf, andAlso};
 ghost use Rattle.power.specs.Promise.{allowed'};
 ghost use Rattle.power.specs.Tables.{at};
-ghost use Rattle.power.specs.Found.{Pushed, Swept, needsFit, Finds};
+ghost use Rattle.power.specs.Found.{Pushed, Swept, needsFit, partsFit, Finds};
 use crate::Parts;
 use crate::types::CantBe;
 use crate::types::Levels;
@@ -106,7 +106,7 @@ fn all_fit<P: Parts>(b: &P, ls: &Levels) -> bool
     requires few { ⌜ board (now b) .parts ≤ 64 ⌝ }
     requires plan { ⌜ T (goodPlan (board (now b))) ⌝ }
     requires low { ⌜ ((x : ℕ) → at (now ls) x ≤ 15) ⌝ }
-    ensures { λ r. ⌜ r ≡ allowed' (board (now (b .entry))) (at (now (ls .entry))) ⌝ }
+    ensures { λ r. ⌜ r ≡ partsFit (board (now (b .entry))) (at (now (ls .entry))) ⌝ }
 {
     for n in 0..b.parts() {
         if !part_fits(b, PartId { n }, ls) {
@@ -116,6 +116,40 @@ fn all_fit<P: Parts>(b: &P, ls: &Levels) -> bool
     true
 }
 
+// What all parts draw at these levels together. 64 times 2^32 fits a u64.
+fn draws<P: Parts>(b: &P, ls: &Levels) -> u64
+    requires few { ⌜ board (now b) .parts ≤ 64 ⌝ }
+    requires low { ⌜ ((x : ℕ) → at (now ls) x ≤ 15) ⌝ }
+    ensures { λ r. ⌜ r ≡ drawnAt (board (now (b .entry))) (at (now (ls .entry))) ⌝ }
+{
+    let mut sum: u64 = 0;
+    let parts = b.parts();
+    for n in 0..parts {
+        let l = ls.get(PartId { n });
+        sum += b.draw(n, l) as u64;
+    }
+    sum
+}
+
+// They draw no more than the board gives.
+fn draws_fit<P: Parts>(b: &P, ls: &Levels) -> bool
+    requires few { ⌜ board (now b) .parts ≤ 64 ⌝ }
+    requires low { ⌜ ((x : ℕ) → at (now ls) x ≤ 15) ⌝ }
+    ensures { λ r. ⌜ r ≡ leb (drawnAt (board (now (b .entry))) (at (now (ls .entry)))) (board (now (b .entry)) .gives) ⌝ }
+{
+    draws(b, ls) <= b.gives() as u64
+}
+
+// Levels up to 15 are allowed: by each part, and all together.
+fn allowed<P: Parts>(b: &P, ls: &Levels) -> bool
+    requires few { ⌜ board (now b) .parts ≤ 64 ⌝ }
+    requires plan { ⌜ T (goodPlan (board (now b))) ⌝ }
+    requires low { ⌜ ((x : ℕ) → at (now ls) x ≤ 15) ⌝ }
+    ensures { λ r. ⌜ r ≡ allowed' (board (now (b .entry))) (at (now (ls .entry))) ⌝ }
+{
+    all_fit(b, ls) && draws_fit(b, ls)
+}
+
 // The least levels that serve what is wanted, if it can be.
 pub fn least<P: Parts>(b: &P, want: &Levels) -> Result<Levels, CantBe>
     requires few { ⌜ board (now b) .parts ≤ 64 ⌝ }
@@ -123,5 +157,5 @@ pub fn least<P: Parts>(b: &P, want: &Levels) -> Result<Levels, CantBe>
     ensures { λ r. ⌜ Finds (board (now (b .entry))) (at (now (want .entry))) r ⌝ }
 {
     let ls = sweep(b, want)?;
-    if all_fit(b, &ls) { Ok(ls) } else { Err(CantBe) }
+    if allowed(b, &ls) { Ok(ls) } else { Err(CantBe) }
 }

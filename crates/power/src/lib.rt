@@ -4,7 +4,7 @@ ghost use mathlib.Core.Bool.{true, false};
 ghost use Prim.Native.Nat.{ℕ, _+_, _<_, _≤_};
 ghost use lib.ListN.{length, getD};
 ghost use lib.Dec.{T};
-ghost use Rattle.power.specs.Board.{Board, MayRaise, MayLower, MayLevel, Tries, raised, lowered, levelled, isRising, onOf, leastOf, mostOf, why, called, mayTell, told, inTime, ticked, AtStart};
+ghost use Rattle.power.specs.Board.{Board, MayRaise, MayLower, MayLevel, Tries, raised, lowered, levelled, isRising, onOf, leastOf, mostOf, drawAt, why, called, mayTell, told, inTime, ticked, AtStart};
 ghost use Rattle.power.specs.Promise.{LeastServes, LeastIsLeast, MoreIsMore, CannotBe};
 ghost use Rattle.power.specs.Kept.{Kept, Worked};
 
@@ -66,6 +66,12 @@ pub trait Parts {
     fn need_most(&self, x: u32, k: u32) -> u32
         requires { ⌜ k < length (board (now self) .needs x) ⌝ }
         ensures { λ r. ⌜ r ≡ mostOf k (board (now (self .entry)) .needs x) ⌝ };
+    // what it draws at level l; what the board gives
+    fn draw(&self, x: u32, l: u32) -> u32
+        requires { ⌜ l < 16 ⌝ }
+        ensures { λ r. ⌜ r ≡ drawAt (board (now (self .entry))) x l ⌝ };
+    fn gives(&self) -> u32
+        ensures { λ r. ⌜ r ≡ board (now (self .entry)) .gives ⌝ };
 
     // it begins to rise; is it good yet; it's off; it's at another level
     fn raise(&mut self, x: u32)

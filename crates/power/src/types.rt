@@ -39,6 +39,6 @@ pub struct Aims {
     pub goal: Levels,
 }
 
-// What is wanted can't be: a level above 15, or above what a part that needs it allows.
+// What is wanted can't be: a level above 15, or above what a part that needs it allows, or more drawn than is given.
 #[derive(Clone, Copy)]
 pub struct CantBe;

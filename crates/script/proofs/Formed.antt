@@ -14,8 +14,8 @@ use Rattle.std.specs.declared.option.Option.{Option}
 use Rattle.std.specs.declared.option.Option.the-variants.{None, Some}
 use Rattle.std.specs.shelf.Lists.{All}
 use Rattle.std.specs.shelf.Text.{sameBytes}
-use Rattle.script.specs.Forms.{unwords, IsWord, Spells, Pairwise, NeedWords, SpellsNeed, needBefore, needsWords, partWords, ReadsBack}
-use Rattle.script.specs.Lines.{Written, Said, after, levels, most, follow, needs, fromWord, firstLevel, lineOf, restOf, firstOf, userLine, withNumber, only, slowLine, partLine, partWith, want, give, tick, bad, slow}
+use Rattle.script.specs.Forms.{unwords, IsWord, Spells, Pairwise, NeedWords, SpellsNeed, needBefore, needsWords, needsPart, partWords, ReadsBack}
+use Rattle.script.specs.Lines.{Written, Said, after, levels, most, follow, needs, fromWord, firstLevel, lineOf, restOf, firstOf, userLine, withNumber, only, slowLine, drawsLine, partLine, partWith, gives, want, give, tick, bad, slow}
 use Rattle.script.specs.Text.{isBlank, ended, numberOf, wordsAfter, wordsOf}
 use Rattle.script.specs.declared.line.First.{First}
 use Rattle.script.specs.declared.line.First.the-variants as first
@@ -73,11 +73,34 @@ needs-back s (t ∷ ts) n [] h p = absurd p
 needs-back s (t ∷ ts) n (m ∷ ns) h p =
     need-back s n (codes "and" ∷ needsWords t ts) h ∙ ap (λ (o : Option (List Written)). after o (λ ms. Some (n ∷ ms))) (needs-back t ts m ns (p .0) (p .1))
 
-part-back : (x : ℕ) (ss : List NeedWords) (ns : List Written) → Pairwise SpellsNeed ss ns → partLine x (partWords ss) ≡ Some (partWith x ns)
-part-back x [] [] p = refl
-part-back x [] (n ∷ ns) p = absurd p
-part-back x (s ∷ ss) [] p = absurd p
-part-back x (s ∷ ss) (n ∷ ns) p = ap (λ (o : Option (List Written)). after o (λ ms. Some (partWith x ms))) (needs-back s ss n ns (p .0) (p .1))
+-- after these draws
+listed-back : (x : ℕ) (ds : List ℕ) (ss : List NeedWords) (ns : List Written) → Pairwise SpellsNeed ss ns → drawsLine x ds (needsPart ss) ≡ Some (partWith x ds ns)
+listed-back x ds [] [] p = refl
+listed-back x ds [] (n ∷ ns) p = absurd p
+listed-back x ds (s ∷ ss) [] p = absurd p
+listed-back x ds (s ∷ ss) (n ∷ ns) p = ap (λ (o : Option (List Written)). after o (λ ms. Some (partWith x ds ms))) (needs-back s ss n ns (p .0) (p .1))
+
+draws-back : (x : ℕ) (ds : List ℕ) (xs : List (List ℕ)) (bs : List ℕ) (rest : List (List ℕ)) → Pairwise Spells xs bs → drawsLine x ds (xs ++ rest) ≡ drawsLine x (ds ++ bs) rest
+draws-back x ds [] [] rest p = ap (λ (ms : List ℕ). drawsLine x ms rest) (sym (append-nil ds))
+draws-back x ds [] (b ∷ bs) rest p = absurd p
+draws-back x ds (a ∷ xs) [] rest p = absurd p
+draws-back x ds (a ∷ xs) (b ∷ bs) rest p =
+    cond-false (sameBytes a (codes "needs")) _ _ (not-word a (codes "needs") b (p .0) refl) ∙ spelt (λ d. drawsLine x (ds ++ d ∷ []) (xs ++ rest)) a b (p .0)
+    ∙ draws-back x (ds ++ b ∷ []) xs bs rest (p .1) ∙ ap (λ (ms : List ℕ). drawsLine x ms rest) (append-assoc ds (b ∷ []) bs)
+
+-- without draws
+plain-back : (x : ℕ) (ss : List NeedWords) (ns : List Written) → Pairwise SpellsNeed ss ns → partLine x (needsPart ss) ≡ Some (partWith x [] ns)
+plain-back x [] [] p = refl
+plain-back x [] (n ∷ ns) p = absurd p
+plain-back x (s ∷ ss) [] p = absurd p
+plain-back x (s ∷ ss) (n ∷ ns) p = ap (λ (o : Option (List Written)). after o (λ ms. Some (partWith x [] ms))) (needs-back s ss n ns (p .0) (p .1))
+
+part-back : (x : ℕ) (ds : List (List ℕ)) (ms : List ℕ) (ss : List NeedWords) (ns : List Written) → Pairwise Spells ds ms → Pairwise SpellsNeed ss ns → partLine x (partWords ds ss) ≡ Some (partWith x ms ns)
+part-back x [] [] ss ns q p = plain-back x ss ns p
+part-back x [] (m ∷ ms) ss ns q p = absurd q
+part-back x (d ∷ ds) [] ss ns q p = absurd q
+part-back x (d ∷ ds) (m ∷ ms) ss ns q p =
+    spelt (λ a. drawsLine x (a ∷ []) (ds ++ needsPart ss)) d m (q .0) ∙ draws-back x (m ∷ []) ds ms (needsPart ss) (q .1) ∙ listed-back x (m ∷ ms) ss ns p
 
 -- a line that begins with a number is a user's
 user-first : (w : List ℕ) (u : ℕ) → Spells w u → firstOf w ≡ first.User u
@@ -89,7 +112,9 @@ user-first w u s =
     let bad = not-word w (codes "bad") u s refl in
     let slow = not-word w (codes "slow") u s refl in
     let least = not-word w (codes "least") u s refl in
-    rw (part, run, new, tick, bad, slow, least, s) refl
+    let gives = not-word w (codes "gives") u s refl in
+    let drawn = not-word w (codes "drawn") u s refl in
+    rw (part, run, new, tick, bad, slow, least, gives, drawn, s) refl
 
 user-back : (w : List ℕ) (u : ℕ) (ws : List (List ℕ)) → Spells w u → lineOf (w ∷ ws) ≡ userLine u ws
 user-back w u ws s = ap (λ (f : First). restOf f ws) (user-first w u s)
@@ -98,10 +123,12 @@ pub reads-back : ReadsBack
 reads-back =
     record {
       words = words-back;
-      part = λ w x ss ns s p. spelt (λ y. partLine y (partWords ss)) w x s ∙ part-back x ss ns p;
+      part = λ w x ds ms ss ns s q p. spelt (λ y. partLine y (partWords ds ss)) w x s ∙ part-back x ds ms ss ns q p;
+      gives = λ w n s. spelt (λ m. only (gives m) []) w n s;
       run = refl;
       new = refl;
       least = refl;
+      drawn = refl;
       want = λ w v u user x l s q r. user-back w user (codes "want" ∷ v ∷ u ∷ []) s ∙ spelt (λ y. withNumber (λ m. only (want user y m)) (u ∷ [])) v x q ∙ spelt (λ m. only (want user x m) []) u l r;
       give = λ w user s. user-back w user (codes "give" ∷ []) s;
       tick = λ w n s. spelt (λ m. only (tick m) []) w n s;

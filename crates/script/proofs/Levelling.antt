@@ -43,7 +43,7 @@ spread-push (suc n) l k [] a e =
 spread-push (suc n) l k (b ∷ ls) a e = ap (λ (xs : List ℕ). b ∷ xs) (spread-push n b k ls a (omega arith))
 
 -- the same of sixteen levels, where the first c are kept
-levels-more : (ls : List ℕ) (a c : ℕ) (least : List ℕ) → least ≡ 0 ∷ spread 15 0 ls → c ≡ length ls → c < 15 → take (c + 1) least ++ replicate (16 - (c + 1)) a ≡ 0 ∷ spread 15 0 (ls ++ a ∷ [])
+pub levels-more : (ls : List ℕ) (a c : ℕ) (least : List ℕ) → least ≡ 0 ∷ spread 15 0 ls → c ≡ length ls → c < 15 → take (c + 1) least ++ replicate (16 - (c + 1)) a ≡ 0 ∷ spread 15 0 (ls ++ a ∷ [])
 levels-more ls a c least e n h =
     let k : 16 - (c + 1) ≡ suc (14 - c) = omega arith in
     let s : c + 1 ≡ suc (length ls) = omega arith in

@@ -1,4 +1,5 @@
 mod Counted
+mod Drawing
 mod Formed
 mod Levelling
 mod Listed

@@ -1,4 +1,4 @@
--- The needs of a part, word by word.
+-- The needs and draws of a part, word by word.
 use mathlib.Core.Path.{_≡_, refl, sym, ap, _∙_}
 use mathlib.Core.Bool.{true}
 use mathlib.Core.List.{List, [], _∷_, _++_, append-assoc}
@@ -8,7 +8,7 @@ use Rattle.std.proofs.shelf.Tests.{cond-true}
 use Rattle.std.specs.declared.option.Option.{Option}
 use Rattle.std.specs.declared.option.Option.the-variants.{None, Some}
 use Rattle.std.specs.shelf.Text.{sameBytes}
-use Rattle.script.specs.Lines.{Written, after, needs, fromWord, firstLevel, levels, most, follow}
+use Rattle.script.specs.Lines.{Written, after, needs, fromWord, firstLevel, levels, most, follow, withNumber}
 use Rattle.script.specs.Steps.{Began, Lacks}
 
 module _ {A : Type 0} (f : ℕ → Option A) where
@@ -30,6 +30,10 @@ most-is on n ls ws vs b = ap (most on ls) (b .front) ∙ after-some (λ m. follo
 pub most-lacks : (on : ℕ) (ls : List ℕ) (ws : List (List ℕ)) → Lacks ws → most on ls ws ≡ None
 most-lacks on ls [] h = refl
 most-lacks on ls (w ∷ ws) h = after-none (λ m. follow (record { on = on; levels = ls; most = m }) ws) _ h
+
+-- a number, and then what follows
+pub number-first : {A : Type 0} (f : ℕ → List (List ℕ) → Option A) (n : ℕ) (ws vs : List (List ℕ)) → Began n ws vs → withNumber f ws ≡ f n vs
+number-first f n ws vs b = ap (withNumber f) (b .front) ∙ after-some (λ a. f a vs) _ n (b .value)
 
 -- one more need, before those that follow `and`
 pub follow-more : (us : List Written) (w : Written) (ws vs ts : List (List ℕ)) (a : List ℕ) (o : Option (List Written)) → o ≡ after (needs ws) (λ ns. Some (us ++ ns)) → needs ws ≡ follow w vs → vs ≡ a ∷ ts → sameBytes a (codes "and") ≡ true → o ≡ after (needs ts) (λ ns. Some ((us ++ w ∷ []) ++ ns))

@@ -7,7 +7,7 @@ use lib.Chars.{codes}
 use lib.ListN.{length}
 use Rattle.std.specs.declared.option.Option.the-variants.{Some}
 use Rattle.std.specs.shelf.Lists.{All}
-use Rattle.script.specs.Lines.{Written, lineOf, partWith, run, new, least, want, give, tick, bad, slow}
+use Rattle.script.specs.Lines.{Written, lineOf, partWith, run, new, least, gives, drawn, want, give, tick, bad, slow}
 use Rattle.script.specs.Text.{isBlank, numberOf, wordsOf}
 
 -- words with single spaces between them
@@ -53,17 +53,25 @@ abbrev pub needsWords : NeedWords → List NeedWords → List (List ℕ)
 needsWords s [] = needBefore s []
 needsWords s (t ∷ ts) = needBefore s (codes "and" ∷ needsWords t ts)
 
--- what stands after `part X`
-abbrev pub partWords : List NeedWords → List (List ℕ)
-partWords [] = []
-partWords (s ∷ ss) = codes "needs" ∷ needsWords s ss
+-- what stands after `part X` and its draws
+abbrev pub needsPart : List NeedWords → List (List ℕ)
+needsPart [] = []
+needsPart (s ∷ ss) = codes "needs" ∷ needsWords s ss
+
+-- what stands after `part X`: the words of its draws, if it has any, and its needs
+abbrev pub partWords : List (List ℕ) → List NeedWords → List (List ℕ)
+partWords [] ss = needsPart ss
+partWords (d ∷ ds) ss = codes "draws" ∷ d ∷ (ds ++ needsPart ss)
 
 pub record ReadsBack : Type 0 where
   pub words : (ws : List (List ℕ)) → All IsWord ws → wordsOf (unwords ws) ≡ ws
-  pub part : (w : List ℕ) (x : ℕ) (ss : List NeedWords) (ns : List Written) → Spells w x → Pairwise SpellsNeed ss ns → lineOf (codes "part" ∷ w ∷ partWords ss) ≡ Some (partWith x ns)
+  pub part : (w : List ℕ) (x : ℕ) (ds : List (List ℕ)) (ms : List ℕ) (ss : List NeedWords) (ns : List Written) → Spells w x → Pairwise Spells ds ms → Pairwise SpellsNeed ss ns →
+      lineOf (codes "part" ∷ w ∷ partWords ds ss) ≡ Some (partWith x ms ns)
+  pub gives : (w : List ℕ) (n : ℕ) → Spells w n → lineOf (codes "gives" ∷ w ∷ []) ≡ Some (gives n)
   pub run : lineOf (codes "run" ∷ []) ≡ Some run
   pub new : lineOf (codes "new" ∷ []) ≡ Some new
   pub least : lineOf (codes "least" ∷ []) ≡ Some least
+  pub drawn : lineOf (codes "drawn" ∷ []) ≡ Some drawn
   pub want : (w v u : List ℕ) (user x l : ℕ) → Spells w user → Spells v x → Spells u l → lineOf (w ∷ codes "want" ∷ v ∷ u ∷ []) ≡ Some (want user x l)
   pub give : (w : List ℕ) (user : ℕ) → Spells w user → lineOf (w ∷ codes "give" ∷ []) ≡ Some (give user)
   pub tick : (w : List ℕ) (n : ℕ) → Spells w n → lineOf (codes "tick" ∷ w ∷ []) ≡ Some (tick n)

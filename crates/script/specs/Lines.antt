@@ -11,7 +11,7 @@ use Rattle.std.specs.shelf.Text.{sameBytes}
 use Rattle.std.specs.declared.result.Result.{Result}
 use Rattle.std.specs.declared.result.Result.the-variants.{Ok, Err}
 use Rattle.power.specs.Board.{Need}
-use Rattle.sim.specs.Plans.{needsOf}
+use Rattle.sim.specs.Plans.{needsOf, drawOf}
 use Rattle.script.specs.Text.{numberOf}
 use Rattle.script.specs.declared.line.First.{First}
 use Rattle.script.specs.declared.line.First.the-variants as first
@@ -54,22 +54,28 @@ needFits w = levelsFit (w .levels) && leb (w .most) 15
 abbrev pub needsFit : List Written → Bool
 needsFit ws = upTo 4 needFits ws
 
+-- up to 15 draws, of any size
+abbrev pub drawsFit : List ℕ → Bool
+drawsFit ds = leb (length ds) 15
+
 -- what a line says
 pub data Said : Type 0 where
-  part : ℕ → List Need → Said
+  part : ℕ → List ℕ → List Need → Said
   unfit : ℕ → Said
   run : Said
   new : Said
   least : Said
+  gives : ℕ → Said
+  drawn : Said
   want : ℕ → ℕ → ℕ → Said
   give : ℕ → Said
   tick : ℕ → Said
   bad : ℕ → Said
   slow : ℕ → ℕ → Said
 
--- part x with these needs, if a plan can hold them
-abbrev pub partWith : ℕ → List Written → Said
-partWith x ns = cond (needsFit ns) (part x (map needFrom ns)) (unfit x)
+-- part x with these draws, at level 1, 2, .., and these needs, if a plan can hold them; off it draws nothing
+abbrev pub partWith : ℕ → List ℕ → List Written → Said
+partWith x ds ns = cond (drawsFit ds && needsFit ns) (part x (0 ∷ spread 15 0 ds) (map needFrom ns)) (unfit x)
 
 abbrev pub after : {A B : Type 0} → Option A → (A → Option B) → Option B
 after None f = None
@@ -116,10 +122,19 @@ abbrev mutual
   follow n [] = Some (n ∷ [])
   follow n (w ∷ ws) = cond (sameBytes w (codes "and")) (after (needs ws) (λ ns. Some (n ∷ ns))) None
 
--- after `part X`: nothing, or `needs` and the needs
+-- after `needs`
+abbrev pub needsLine : ℕ → List ℕ → List (List ℕ) → Option Said
+needsLine x ds ws = after (needs ws) (λ ns. Some (partWith x ds ns))
+
+-- after these draws: nothing, one more, or `needs` and the needs
+abbrev pub drawsLine : ℕ → List ℕ → List (List ℕ) → Option Said
+drawsLine x ds [] = Some (partWith x ds [])
+drawsLine x ds (w ∷ ws) = cond (sameBytes w (codes "needs")) (needsLine x ds ws) (after (numberOf w) (λ d. drawsLine x (ds ++ d ∷ []) ws))
+
+-- after `part X`: nothing, `draws` and the draws, or `needs` and the needs
 abbrev pub partLine : ℕ → List (List ℕ) → Option Said
-partLine x [] = Some (partWith x [])
-partLine x (w ∷ ws) = cond (sameBytes w (codes "needs")) (after (needs ws) (λ ns. Some (partWith x ns))) None
+partLine x [] = Some (partWith x [] [])
+partLine x (w ∷ ws) = cond (sameBytes w (codes "draws")) (withNumber (λ d. drawsLine x (d ∷ [])) ws) (cond (sameBytes w (codes "needs")) (needsLine x [] ws) None)
 
 -- after `slow X N`: nothing, where N is not 0
 abbrev pub slowLine : ℕ → ℕ → List (List ℕ) → Option Said
@@ -145,7 +160,9 @@ firstOf w =
     (cond (sameBytes w (codes "bad")) first.Bad
     (cond (sameBytes w (codes "slow")) first.Slow
     (cond (sameBytes w (codes "least")) first.Least
-    (userOf (numberOf w))))))))
+    (cond (sameBytes w (codes "gives")) first.Gives
+    (cond (sameBytes w (codes "drawn")) first.Drawn
+    (userOf (numberOf w))))))))))
 
 -- what the words after that say
 abbrev pub restOf : First → List (List ℕ) → Option Said
@@ -156,6 +173,8 @@ restOf first.Tick ws = withNumber (λ n. only (tick n)) ws
 restOf first.Bad ws = withNumber (λ x. only (bad x)) ws
 restOf first.Slow ws = withNumber (λ x. withNumber (slowLine x)) ws
 restOf first.Least ws = only least ws
+restOf first.Gives ws = withNumber (λ n. only (gives n)) ws
+restOf first.Drawn ws = only drawn ws
 restOf (first.User u) ws = userLine u ws
 restOf first.Unknown ws = None
 
@@ -166,7 +185,7 @@ lineOf (w ∷ ws) = restOf (firstOf w) ws
 
 -- what was read
 abbrev pub saidOf : Line → Said
-saidOf (line.Part x p) = part x (needsOf p)
+saidOf (line.Part x p) = part x (drawOf p) (needsOf p)
 saidOf (line.Unfit x) = unfit x
 saidOf line.Run = run
 saidOf line.New = new
@@ -176,6 +195,8 @@ saidOf (line.Tick n) = tick n
 saidOf (line.Bad x) = bad x
 saidOf (line.Slow x n) = slow x n
 saidOf line.Least = least
+saidOf (line.Gives n) = gives n
+saidOf line.Drawn = drawn
 
 abbrev pub heard : Result Line NoLine → Option Said
 heard (Ok l) = Some (saidOf l)

@@ -10,7 +10,8 @@ use Rattle.std.specs.shelf.Text.{sameBytes}
 use Rattle.sim.specs.Plans.{needOf, needsOf}
 use Rattle.sim.specs.declared.plan.PlanNeed.{PlanNeed}
 use Rattle.script.specs.Text.{numberOf}
-use Rattle.script.specs.Lines.{Written, spread, needFrom, levelsFit, needFits, needsFit}
+use Rattle.script.specs.Lines.{Written, spread, needFrom, levelsFit, drawsFit, needFits, needsFit}
+use Rattle.script.specs.declared.draws.Draws.{Draws}
 use Rattle.script.specs.declared.needs.Levels.{Levels}
 use Rattle.script.specs.declared.needs.Needs.{Needs}
 
@@ -35,6 +36,12 @@ pub record Levelled (v : Levels) (ls : List ℕ) : Type 0 where
   pub fits : v .fits ≡ levelsFit ls
   pub count : v .fits ≡ true → v .count ≡ length ls
   pub least : v .fits ≡ true → v .least ≡ 0 ∷ spread 15 0 ls
+
+-- the draws ds were read into v
+pub record Drew (v : Draws) (ds : List ℕ) : Type 0 where
+  pub fits : v .fits ≡ drawsFit ds
+  pub count : v .fits ≡ true → v .count ≡ length ds
+  pub draw : v .fits ≡ true → v .draw ≡ 0 ∷ spread 15 0 ds
 
 -- the need w was read, and is no need of a plan, or this one
 abbrev pub Needed : Option PlanNeed → Written → Type 0

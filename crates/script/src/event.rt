@@ -11,6 +11,8 @@ pub enum Event {
     Good(u32),
     Level(u32, u32),
     Lower(u32),
+    // what all parts draw
+    Drawn(u64),
     NoPlan,
     // which line of the input is none
     NoLine(u64),

@@ -1,5 +1,6 @@
 // The text of plans and scripts: what a line says, and what is printed. It uses no heap.
 pub mod buffer;
+mod draws;
 pub mod event;
 pub mod line;
 pub mod lines;
@@ -9,5 +10,6 @@ pub mod printer;
 pub mod read;
 mod row;
 pub mod sheet;
+mod spread;
 pub mod words;
 mod write;

@@ -3,9 +3,9 @@ use sim::plan::PlanPart;
 
 #[derive(Clone, Copy)]
 pub enum Line {
-    // a part, and what it needs
+    // a part, and what it draws and needs
     Part(u32, PlanPart),
-    // a part whose needs no plan can hold
+    // a part whose needs or draws no plan can hold
     Unfit(u32),
     Run,
     New,
@@ -17,6 +17,9 @@ pub enum Line {
     // which part is good when asked for the how manyth time
     Slow(u32, u32),
     Least,
+    // what the board gives
+    Gives(u32),
+    Drawn,
 }
 
 // Why a text is no line.
@@ -41,6 +44,8 @@ pub enum First {
     Bad,
     Slow,
     Least,
+    Gives,
+    Drawn,
     // a user's number
     User(u32),
     Unknown,

@@ -1,17 +1,20 @@
 // The needs of a part, as a line writes them: `Y from A B .. most M and Y from ..`.
 ghost use mathlib.Core.Path.{_≡_};
 ghost use mathlib.Core.List.{List, [], _∷_, _++_};
-ghost use Prim.Native.Nat.{ℕ, _-_, _≤_, _<_};
-ghost use lib.ListN.{length, take, replicate};
+ghost use Prim.Native.Nat.{ℕ, _≤_, _<_};
+ghost use lib.ListN.{length};
 ghost use Rattle.std.specs.declared.option.Option.the-variants.{None, Some};
 ghost use Rattle.std.specs.Results.{Cases as Either};
 ghost use Rattle.std.specs.Vec.{made};
 ghost use Rattle.script.specs.Lines.{Written, follow, levels, most, needs, partWith, saidOf};
-ghost use Rattle.script.specs.Steps.{Gathered, Levelled, Needed};
+ghost use Rattle.script.specs.Steps.{Drew, Gathered, Levelled, Needed};
 ghost use Rattle.script.specs.Text.{wordsOf};
+use super::draws::Draws;
 use super::line::Line;
 use super::line::NoLine;
 use super::numbers::decimal;
+use super::spread::MOST_LEVELS;
+use super::spread::spread_from;
 use super::words::Words;
 use super::words::is_word;
 use super::words::keyword;
@@ -19,10 +22,8 @@ use super::words::number;
 use sim::plan::PlanNeed;
 use sim::plan::PlanPart;
 
-// The highest level that a plan can hold, and how many it can hold for a need.
+// The highest level that a plan can hold.
 const TOP: u32 = 15;
-
-const MOST_LEVELS: usize = 15;
 
 // The levels that were read, from level 1 on, if a plan can hold them.
 #[derive(Clone, Copy)]
@@ -37,16 +38,6 @@ pub struct Levels {
 pub struct Needs {
     part: PlanPart,
     fits: bool,
-}
-
-// From index `from` on there is this level.
-fn spread_from(least: &mut [u32; 16], from: usize, level: u32)
-    requires { ⌜ from ≤ 16 ⌝ }
-    ensures { λ _. ⌜ now (least .exit) ≡ take from (now (least .entry)) ++ replicate (16 - from) level ⌝ }
-{
-    for i in from..16 {
-        least[i] = level;
-    }
 }
 
 impl Levels {
@@ -89,7 +80,7 @@ impl Levels {
 }
 
 impl Needs {
-    fn none() -> Needs
+    pub fn none() -> Needs
         ensures { λ r. ⌜ Gathered r [] ⌝ }
     {
         Needs {
@@ -111,12 +102,14 @@ impl Needs {
         }
     }
 
-    // The line of part x with these needs.
-    pub fn line(self, x: u32) -> Line
-        ensures { λ r. ⌜ ((ws : List Written) → Gathered self ws → saidOf r ≡ partWith x ws) ⌝ }
+    // The line of part x with these draws and needs.
+    pub fn line(self, x: u32, draws: Draws) -> Line
+        ensures { λ r. ⌜ ((ds : List ℕ) (ws : List Written) → Drew draws ds → Gathered self ws → saidOf r ≡ partWith x ds ws) ⌝ }
     {
-        if self.fits {
-            Line::Part(x, self.part)
+        if draws.fits && self.fits {
+            let mut part = self.part;
+            part.set_draw(draws.draw);
+            Line::Part(x, part)
         } else {
             Line::Unfit(x)
         }

@@ -1,17 +1,22 @@
 // Lines are read word by word.
 ghost use mathlib.Core.Path.{_≡_};
+ghost use mathlib.Core.List.{List, [], _∷_};
+ghost use Prim.Native.Nat.{ℕ};
 ghost use Rattle.script.specs.Text.{wordsOf};
 ghost use Rattle.script.specs.Forms.{ReadsBack};
-ghost use Rattle.script.specs.Lines.{firstOf, heard, lineOf, only, partLine, saidOf, slowLine, userLine, withNumber, tick, bad, want};
+ghost use Rattle.script.specs.Lines.{drawsLine, firstOf, heard, lineOf, needsLine, only, partLine, partWith, saidOf, slowLine, userLine, withNumber, tick, bad, gives, want};
+ghost use Rattle.script.specs.Steps.{Drew};
+use super::draws::Draws;
+use super::draws::more_draws;
 use super::line::First;
 use super::line::Line;
 use super::line::NoLine;
+use super::needs::Needs;
 use super::needs::all_needs;
 use super::numbers::decimal;
 use super::words::Words;
 use super::words::is_word;
 use super::words::number;
-use sim::plan::PlanPart;
 
 // What a text says, or why it says nothing.
 pub fn read_line(text: &[u8]) -> Result<Line, NoLine>
@@ -30,6 +35,8 @@ pub fn read_line(text: &[u8]) -> Result<Line, NoLine>
         First::Bad => bad(words),
         First::Slow => slow(words),
         First::Least => alone(Line::Least, words),
+        First::Gives => gives(words),
+        First::Drawn => alone(Line::Drawn, words),
         First::User(user) => by_user(user, words),
         First::Unknown => Err(NoLine::UnknownWord),
     }
@@ -59,6 +66,10 @@ fn first(word: &[u8]) -> First
         First::Slow
     } else if is_word(word, b"least") {
         First::Least
+    } else if is_word(word, b"gives") {
+        First::Gives
+    } else if is_word(word, b"drawn") {
+        First::Drawn
     } else {
         match decimal(word) {
             Some(user) => First::User(user),
@@ -89,6 +100,13 @@ fn bad(mut words: Words<'_>) -> Result<Line, NoLine>
 {
     let x = number(&mut words)?;
     alone(Line::Bad(x), words)
+}
+
+fn gives(mut words: Words<'_>) -> Result<Line, NoLine>
+    ensures { λ r. ⌜ heard r ≡ withNumber (λ n. only (gives n)) (wordsOf (now (words .entry .rest))) ⌝ }
+{
+    let n = number(&mut words)?;
+    alone(Line::Gives(n), words)
 }
 
 fn slow(mut words: Words<'_>) -> Result<Line, NoLine>
@@ -128,20 +146,52 @@ fn want(user: u32, mut words: Words<'_>) -> Result<Line, NoLine>
     alone(Line::Want(user, x, l), words)
 }
 
-// A part that needs nothing, or what follows `needs`.
+// A part that draws nothing and needs nothing, or what follows `draws` or `needs`.
 fn part(mut words: Words<'_>) -> Result<Line, NoLine>
     ensures { λ r. ⌜ heard r ≡ withNumber partLine (wordsOf (now (words .entry .rest))) ⌝ }
 {
     let x = number(&mut words)?;
     match words.next() {
-        None => Ok(Line::Part(x, PlanPart::none())),
+        None => Ok(without_needs(x, Draws::none())),
         Some(word) => {
-            if is_word(word, b"needs") {
-                let needs = all_needs(&mut words)?;
-                Ok(needs.line(x))
+            if is_word(word, b"draws") {
+                with_draws(x, words)
+            } else if is_word(word, b"needs") {
+                with_needs(x, Draws::none(), words)
             } else {
                 Err(NoLine::UnknownWord)
             }
         }
+    }
+}
+
+// Part x that needs nothing.
+fn without_needs(x: u32, draws: Draws) -> Line
+    ensures { λ r. ⌜ ((ds : List ℕ) → Drew draws ds → saidOf r ≡ partWith x ds []) ⌝ }
+{
+    let needs = Needs::none();
+    needs.line(x, draws)
+}
+
+// What part x needs, after what it draws.
+fn with_needs(x: u32, draws: Draws, mut words: Words<'_>) -> Result<Line, NoLine>
+    ensures { λ r. ⌜ ((ds : List ℕ) → Drew draws ds → heard r ≡ needsLine x ds (wordsOf (now (words .entry .rest)))) ⌝ }
+{
+    let needs = all_needs(&mut words)?;
+    Ok(needs.line(x, draws))
+}
+
+// What part x draws, and what it needs.
+fn with_draws(x: u32, mut words: Words<'_>) -> Result<Line, NoLine>
+    ensures { λ r. ⌜ heard r ≡ withNumber (λ d. drawsLine x (d ∷ [])) (wordsOf (now (words .entry .rest))) ⌝ }
+{
+    let first = number(&mut words)?;
+    let mut draws = Draws::none();
+    draws.push(first);
+    let more = more_draws(&mut words, &mut draws)?;
+    if more {
+        with_needs(x, draws, words)
+    } else {
+        Ok(without_needs(x, draws))
     }
 }

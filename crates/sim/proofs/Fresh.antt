@@ -15,7 +15,7 @@ use Rattle.sim.specs.declared.state.Wanted.the-variants as wanted
 use Rattle.sim.specs.declared.state.Pace.the-variants.{At}
 use Rattle.sim.specs.declared.state.Sim.{Sim}
 use Rattle.sim.specs.Boards.{boardOf, partOf, wishOf}
-use Rattle.sim.specs.Plans.{boardFor, needsAt}
+use Rattle.sim.specs.Plans.{boardFor, needsAt, drawsAt}
 use Rattle.sim.specs.Starts.{Fresh}
 
 -- an array all of whose elements are the default
@@ -26,7 +26,7 @@ all-same (suc n) a (suc x) = all-same n a x
 
 -- the board of a plan, with these parts, tries and wishes
 abbrev boardWith : Plan → (ℕ → Part) → (ℕ → ℕ) → (ℕ → Wish) → ℕ → ℕ → Board
-boardWith p f t w q l = record { parts = p .parts; needs = needsAt (p .part); part = f; tried = t; wish = w; quiet = q; left = l }
+boardWith p f t w q l = record { parts = p .parts; needs = needsAt (p .part); draws = drawsAt (p .part); gives = p .gives; part = f; tried = t; wish = w; quiet = q; left = l }
 
 starts : (p : Plan) → T (goodPlan (boardFor p)) → AtStart (boardFor p)
 starts p g = (p .few, g, λ x. (refl, refl), λ u. refl, refl, omega arith)

@@ -9,7 +9,7 @@ use native.Mathlib.Numerals.{add-one}
 use lib.Dec.{leb, eqb}
 use lib.ListN.{getD, length, take}
 use Rattle.std.proofs.shelf.Tests.{cases-eq}
-use Rattle.power.specs.Board.{Need, every, all, rising, apart, goodNeed}
+use Rattle.power.specs.Board.{Need, every, all, rising, apart, goodNeed, goodDraw}
 use Rattle.sim.specs.declared.plan.PlanNeed.{PlanNeed}
 use Rattle.sim.specs.Plans.{needOf, noNeed, isNew}
 
@@ -100,5 +100,5 @@ apart-first (suc n) (m ∷ ns) h =
     ∙ sym (every-front n (isNew (m ∷ ns)))
 
 -- what `goodPlan` asks of each part
-abbrev pub sense : ℕ → List Need → Bool
-sense x ns = all (goodNeed x) ns && apart ns && leb (length ns) 4
+abbrev pub sense : ℕ → List Need → List ℕ → Bool
+sense x ns ds = all (goodNeed x) ns && apart ns && leb (length ns) 4 && goodDraw ds

@@ -7,7 +7,7 @@ use Rattle.sim.specs.declared.state.PartState.the-variants as state
 use Rattle.sim.specs.declared.state.Wanted.{Wanted}
 use Rattle.sim.specs.declared.state.Wanted.the-variants as wanted
 use Rattle.sim.specs.declared.state.Sim.{Sim}
-use Rattle.sim.specs.Plans.{needsAt}
+use Rattle.sim.specs.Plans.{needsAt, drawsAt}
 
 abbrev pub partOf : PartState → Part
 partOf state.Off = Off
@@ -24,6 +24,8 @@ boardOf s =
     record {
       parts = s .plan .parts;
       needs = needsAt (s .plan .part);
+      draws = drawsAt (s .plan .part);
+      gives = s .plan .gives;
       part = λ x. partOf (getD (s .states) x state.Off);
       tried = λ x. getD (s .tried) x 0;
       wish = λ u. wishOf (getD (s .wishes) u wanted.Nothing);
@@ -33,4 +35,4 @@ boardOf s =
 
 -- every part is tried anew
 abbrev pub anew : Board → Board
-anew b = record { parts = b .parts; needs = b .needs; part = b .part; tried = λ x. 0; wish = b .wish; quiet = b .quiet; left = b .left }
+anew b = record { parts = b .parts; needs = b .needs; draws = b .draws; gives = b .gives; part = b .part; tried = λ x. 0; wish = b .wish; quiet = b .quiet; left = b .left }

@@ -1,4 +1,4 @@
--- What a written plan means: the needs of each part, in the words of the board.
+-- What a written plan means: the needs and draws of each part, in the words of the board.
 use mathlib.Core.Path.{_≡_, refl}
 use mathlib.Core.Bool.{Bool, not}
 use lib.Dec.{eqb}
@@ -23,6 +23,13 @@ needsOf p = map needOf (take (p .count) (p .needs))
 abbrev pub needsAt : List PlanPart → ℕ → List Need
 needsAt ps x = getD (map needsOf ps) x []
 
+-- and draws nothing
+abbrev pub drawOf : PlanPart → List ℕ
+drawOf p = p .draw
+
+abbrev pub drawsAt : List PlanPart → ℕ → List ℕ
+drawsAt ps x = getD (map drawOf ps) x []
+
 -- the ith of these goes to another part than those before it
 abbrev pub isNew : List PlanNeed → ℕ → Bool
 isNew ns i = every i (λ j. not (eqb (getD ns i noNeed .on) (getD ns j noNeed .on)))
@@ -35,4 +42,4 @@ pub record Tells (n : Need) (k : ℕ) (ns : List Need) : Type 0 where
 
 -- the board of a plan, with everything off and nobody who wants anything
 abbrev pub boardFor : Plan → Board
-boardFor p = record { parts = p .parts; needs = needsAt (p .part); part = λ x. Off; tried = λ x. 0; wish = λ u. None'; quiet = 0; left = 1024 }
+boardFor p = record { parts = p .parts; needs = needsAt (p .part); draws = drawsAt (p .part); gives = p .gives; part = λ x. Off; tried = λ x. 0; wish = λ u. None'; quiet = 0; left = 1024 }

@@ -38,6 +38,14 @@ pub impl Parts for Sim as SimParts {
         self.plan.need(x, k).most
     }
 
+    fn draw(&self, x: u32, l: u32) -> u32 {
+        self.plan.draw(x, l)
+    }
+
+    fn gives(&self) -> u32 {
+        self.plan.gives
+    }
+
     // Its next pace is in effect from now on.
     fn raise(&mut self, x: u32)
         requires { ⌜ MayRaise (boardOf (now self)) x ⌝ }

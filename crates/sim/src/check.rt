@@ -4,13 +4,13 @@ ghost use mathlib.Core.Bool.{not, _&&_};
 ghost use Prim.Native.Nat.{_<_};
 ghost use lib.Dec.{eqb, leb};
 ghost use lib.ListN.{length, getD};
-ghost use Rattle.power.specs.Board.{rising, goodNeed, apart, all, every, goodPlan};
+ghost use Rattle.power.specs.Board.{rising, goodNeed, goodDraw, apart, all, every, goodPlan};
 ghost use Rattle.sim.specs.Plans.{needOf, needsOf, boardFor, isNew};
 use super::plan::Plan;
 use super::plan::PlanNeed;
 use super::plan::PlanPart;
 
-// No level needs less than one below it.
+// No level needs less, or draws less, than one below it.
 fn rises(least: &[u32; 16]) -> bool
     ensures { λ r. ⌜ r ≡ rising (now (least .entry)) ⌝ }
 {
@@ -67,10 +67,23 @@ fn are_apart(part: &PlanPart) -> bool
     true
 }
 
-fn part_makes_sense(x: u32, part: &PlanPart) -> bool
+fn all_needs_make_sense(x: u32, part: &PlanPart) -> bool
     ensures { λ r. ⌜ r ≡ (all (goodNeed x) (needsOf (now (part .entry))) && apart (needsOf (now (part .entry))) && leb (length (needsOf (now (part .entry)))) 4) ⌝ }
 {
     needs_make_sense(x, part) && are_apart(part)
+}
+
+fn draw_makes_sense(part: &PlanPart) -> bool
+    ensures { λ r. ⌜ r ≡ goodDraw (now (part .entry) .draw) ⌝ }
+{
+    let draw = part.draw;
+    rises(&draw) && draw[0] == 0
+}
+
+fn part_makes_sense(x: u32, part: &PlanPart) -> bool
+    ensures { λ r. ⌜ r ≡ (all (goodNeed x) (needsOf (now (part .entry))) && apart (needsOf (now (part .entry))) && leb (length (needsOf (now (part .entry)))) 4 && goodDraw (now (part .entry) .draw)) ⌝ }
+{
+    all_needs_make_sense(x, part) && draw_makes_sense(part)
 }
 
 impl Plan {

@@ -2,6 +2,7 @@
 pub mod board;
 pub mod build;
 mod check;
+pub mod draws;
 pub mod least;
 pub mod pace;
 pub mod plan;

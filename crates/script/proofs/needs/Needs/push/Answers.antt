@@ -14,4 +14,4 @@ pub returns-in-Err : need.returns-in-Err
 returns-in-Err c ws w h n = gathered-not (c .args .self .now) _ ws w h refl (inr (c .in-Err .ensures tt .0))
 
 pub returns-in-Ok : need.returns-in-Ok
-returns-in-Ok c ws w h n = gathered-more (c .args .self .now) _ ws w (c .in-Some .need) h refl (subst (λ (o : Option PlanNeed). Needed o w) (c .in-Some .is) n) (c .in-Ok .ensures tt)
+returns-in-Ok c ws w h n = gathered-more (c .args .self .now) _ ws w (c .in-Some .need) h refl (subst (λ (o : Option PlanNeed). Needed o w) (c .in-Some .is) n) (c .in-Ok .ensures tt .0)

@@ -1,5 +1,5 @@
 -- One more stands at the end.
-use mathlib.Core.Path.{ap, _∙_}
+use mathlib.Core.Path.{refl, ap, _∙_}
 use mathlib.Core.List.{map, [], _∷_}
 use native.Mathlib.Omega.{arith}
 use Prim.Native.Nat.{_<_}
@@ -13,4 +13,4 @@ returns c =
     let ns = c .args .self .now .needs in
     let n = c .args .self .now .count in
     let h : n < length ns = omega arith in
-    ap (map needOf) (take-more-set ns n (c .args .need) h) ∙ map-append needOf (take n ns) (c .args .need ∷ [])
+    (ap (map needOf) (take-more-set ns n (c .args .need) h) ∙ map-append needOf (take n ns) (c .args .need ∷ []), refl)

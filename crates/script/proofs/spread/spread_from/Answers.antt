@@ -6,7 +6,7 @@ use native.Mathlib.Omega.{arith}
 use lib.ListN.{length, take, replicate}
 use Rattle.std.proofs.shelf.Lists.{length-set, take-all}
 use Rattle.script.proofs.Levelling.{fill-more}
-use Rattle.script.proofs.needs.spread_from.Needs as need
+use Rattle.script.proofs.spread.spread_from.Needs as need
 
 pub loop-i-again : need.loop-i-again
 loop-i-again c =

@@ -10,7 +10,7 @@ use Rattle.power.specs.Board.{all, apart, goodNeed}
 use Rattle.sim.specs.Plans.{needsOf}
 use Rattle.sim.proofs.Listed.{length-needs}
 use Rattle.sim.proofs.Sensible.{and-true}
-use Rattle.sim.proofs.check.part_makes_sense.Needs as need
+use Rattle.sim.proofs.check.all_needs_make_sense.Needs as need
 
 pub returns-then-needs-make-sense : need.returns-then-needs-make-sense
 returns-then-needs-make-sense c =
