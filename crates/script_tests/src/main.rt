@@ -25,7 +25,20 @@ fn reason(no: NoLine) -> &'static str {
     }
 }
 
+fn draws_nothing(draw: &[u32; 16]) -> bool {
+    for l in 0..16 {
+        if draw[l] != 0 {
+            return false;
+        }
+    }
+    true
+}
+
 fn show_part(rt: &LibcRuntime, part: PlanPart) -> io::Result<()> {
+    let draw = part.draw;
+    if !draws_nothing(&draw) {
+        println!(rt, "  draws {draw:?}")?;
+    }
     for k in 0..4 {
         if k < part.count {
             let need = part.needs[k as usize];
@@ -53,6 +66,8 @@ fn show(rt: &LibcRuntime, line: Line) -> io::Result<()> {
         Line::Bad(x) => println!(rt, "bad {x}"),
         Line::Slow(x, n) => println!(rt, "slow {x} {n}"),
         Line::Least => println!(rt, "least"),
+        Line::Gives(n) => println!(rt, "the board gives {n}"),
+        Line::Drawn => println!(rt, "drawn"),
     }
 }
 
@@ -64,6 +79,7 @@ fn show_events(rt: &LibcRuntime) {
         printer.say(Event::Level(k, 15));
     }
     printer.say(Event::NoLine(18_446_744_073_709_551_615));
+    printer.say(Event::Drawn(274_877_906_880));
     printer.say_levels(&[1, 0, 15]);
     printer.say_levels(&[]);
     printer.flush();

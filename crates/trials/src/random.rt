@@ -70,9 +70,24 @@ fn has(part: &PlanPart, on: u32) -> bool {
     false
 }
 
+// Draws that never fall, for the most part.
+fn random_draw(r: &mut Random) -> [u32; 16] {
+    let mut draw = [0u32; 16];
+    let mut sum = r.below(3);
+    for i in 1..16 {
+        draw[i] = sum;
+        sum = r.below(3).saturating_add(sum);
+    }
+    if r.below(200) == 0 {
+        draw[9] = r.below(4);
+    }
+    draw
+}
+
 // A part that needs up to four others.
 fn random_part(r: &mut Random, x: u32) -> PlanPart {
     let mut part = PlanPart::none();
+    part.set_draw(random_draw(r));
     if x == 0 {
         return part;
     }
@@ -89,6 +104,9 @@ pub fn random_plan(r: &mut Random) -> Plan {
     let mut plan = Plan::none();
     for x in 0..r.below(12) {
         let _ = plan.add(random_part(r, x));
+    }
+    if r.below(2) == 0 {
+        plan.set_gives(r.below(80));
     }
     plan
 }

@@ -51,7 +51,20 @@ fn within(plan: &Plan, x: usize, f: &[u32; 64]) -> bool {
     true
 }
 
-// The levels, or none where one would have to be above 15, or above what a part allows.
+// What all parts draw at these levels.
+fn drawn(plan: &Plan, f: &[u32; 64]) -> u64 {
+    let mut sum: u64 = 0;
+    for x in 0..plan.parts as usize {
+        let l = f[x];
+        if l < 16 {
+            let draw = plan.part[x].draw;
+            sum = sum.saturating_add(draw[l as usize] as u64);
+        }
+    }
+    sum
+}
+
+// The levels, or none where one would have to be above 15, or above what a part allows, or more is drawn than is given.
 pub fn lowest(plan: &Plan, want: &Levels) -> Option<[u32; 64]> {
     let mut f = [0u32; 64];
     for _ in 0..1024 {
@@ -65,6 +78,9 @@ pub fn lowest(plan: &Plan, want: &Levels) -> Option<[u32; 64]> {
         if !within(plan, x, &f) {
             return None;
         }
+    }
+    if drawn(plan, &f) > plan.gives as u64 {
+        return None;
     }
     Some(f)
 }
