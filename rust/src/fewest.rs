@@ -18,8 +18,8 @@
 
 use crate::play;
 use crate::rules::board::{Board, State};
-use crate::rules::line::{Line, PartLine, ScriptLine, lines};
-use crate::rules::plan::{Level, MAX_PARTS, Plan};
+use crate::rules::line::{Line, ScriptLine, lines};
+use crate::rules::plan::{Draft, Level, MAX_PARTS, Plan};
 use crate::rules::printed::{Answer, Happening, Step};
 use crate::rules::users::{UserId, Users};
 use crate::rules::{Broken, Fault, judge};
@@ -126,14 +126,15 @@ pub fn of_input(input: &[u8]) -> Result<Counts, Failure> {
 /// the rules.
 fn count(input: &[u8], output: &[u8]) -> Result<Counts, Failure> {
     let mut output = std::str::from_utf8(output).map_err(|_| Failure::Unclear)?.split_terminator('\n').peekable();
-    let mut parts: Vec<PartLine> = Vec::new();
+    let mut draft = Draft::new();
     let mut watch: Option<Watch> = None;
     // A tick was printed, and nothing after it.
     let mut open = false;
     for (number, line) in (1..).zip(lines(input)) {
         match (&mut watch, line) {
-            (None, Some(Line::Part(part))) => parts.push(part),
-            (None, Some(Line::Run)) => watch = Some(Watch::new(Plan::of(&parts).ok_or(Failure::Unclear)?)),
+            (None, Some(Line::Part(part))) => draft.part(part),
+            (None, Some(Line::Gives(amount))) => draft.gives(amount),
+            (None, Some(Line::Run)) => watch = Some(Watch::new(Plan::of(&draft).ok_or(Failure::Unclear)?)),
             (None, _) | (_, Some(Line::New)) => return Err(Failure::Unclear),
             (Some(_), Some(Line::Script(ScriptLine::Tick(_)))) if open => return Err(Failure::Unclear),
             (Some(watch), Some(Line::Script(ScriptLine::Tick(ticks)))) => {
@@ -430,10 +431,11 @@ impl Watch {
 mod tests {
     use super::{Counts, Failure, count};
 
-    /// Lines with `_` for gaps, and spaces between lines. 1 needs 0 at its own level, 2 nothing, 3 needs 0 at most at 1.
+    /// Lines with `_` for gaps, and spaces between lines. 1 needs 0 at its own level, 3 needs 0 at most at 1; 2 needs
+    /// nothing, and there isn't enough for it above level 1.
     fn of(script: &str, printed: &str) -> Result<Counts, Failure> {
         let lines = |text: &str| text.split(' ').filter(|l| !l.is_empty()).map(|l| l.replace('_', " ") + "\n").collect::<String>();
-        let plan = "part 0\npart 1 needs 0 from 1 2 3 most 15\npart 2\npart 3 needs 0 from 1 most 1\nrun\n";
+        let plan = "part 0\npart 1 needs 0 from 1 2 3 most 15\npart 2 draws 4 5\npart 3 needs 0 from 1 most 1\ngives 4\nrun\n";
         count((plan.to_string() + &lines(script)).as_bytes(), lines(printed).as_bytes())
     }
 
@@ -489,6 +491,8 @@ mod tests {
         let script = "0_want_1_2 tick_1 1_want_3_1 tick_1";
         assert_eq!(askings(script, &format!("{UP} taken 1_no_5")), 6);
         differs(2, 0, script, &format!("{UP} taken raise_2 good_2 1_no_5"));
+        assert_eq!(askings("0_want_2_2 tick_1", "taken 0_no_5"), 0);
+        differs(2, 0, "0_want_2_2 tick_1", "taken raise_2 good_2 0_no_5");
     }
 
     #[test]

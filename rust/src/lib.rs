@@ -21,7 +21,7 @@ pub mod trial;
 pub enum NoLeast {
     /// The text is no plan, or the plan makes no sense.
     NoPlan,
-    /// It can't be: a level above 15, or above what a part allows.
+    /// It can't be: a level above 15, or above what a part allows, or more drawn than is given.
     CannotBe,
 }
 

@@ -1,22 +1,14 @@
 //! The least that the library finds, against the lowest levels found by putting up whatever is too low.
 #![cfg(not(feature = "plain"))]
 
-use buoy::cases::plans::{self, Plan};
+use buoy::cases::plans::{self, Part, Plan, entry};
 use buoy::rng::Rng;
 use buoy::{NoLeast, least, makes_sense};
 
 const TOP: u32 = 15;
 
 fn text(plan: &Plan) -> Vec<u8> {
-    plan.lines().flat_map(|line| [line.into_bytes(), b"\n".to_vec()].concat()).collect()
-}
-
-/// What a need asks of the other part while its own part is at `level`.
-fn asked(levels: &[u32], level: u32) -> u32 {
-    match level {
-        0 => 0,
-        _ => levels[(level as usize - 1).min(levels.len() - 1)],
-    }
+    plan.lines().into_iter().flat_map(|line| [line.into_bytes(), b"\n".to_vec()].concat()).collect()
 }
 
 fn lowest(plan: &Plan, wants: &[u32]) -> Result<[u32; 64], NoLeast> {
@@ -24,17 +16,19 @@ fn lowest(plan: &Plan, wants: &[u32]) -> Result<[u32; 64], NoLeast> {
     levels[..wants.len()].copy_from_slice(wants);
     // From the last part to the first, twice, so that the order can't matter.
     for _ in 0..2 {
-        for (x, needs) in plan.parts.iter().enumerate().rev() {
-            for need in needs {
-                let least = asked(&need.levels, levels[x]);
+        for (x, part) in plan.parts.iter().enumerate().rev() {
+            for need in &part.needs {
+                let least = entry(&need.levels, levels[x]);
                 let on = &mut levels[need.on as usize];
                 *on = (*on).max(least);
             }
         }
     }
-    let allowed = |(x, needs): (usize, &Vec<plans::Need>)| levels[x] == 0 || needs.iter().all(|need| levels[need.on as usize] <= need.most);
+    let allowed = |(x, part): (usize, &Part)| levels[x] == 0 || part.needs.iter().all(|need| levels[need.on as usize] <= need.most);
     let fits = levels.iter().all(|&l| l <= TOP) && plan.parts.iter().enumerate().all(allowed);
-    fits.then_some(levels).ok_or(NoLeast::CannotBe)
+    let drawn: u64 = plan.parts.iter().zip(levels).map(|(part, level)| u64::from(entry(&part.draws, level))).sum();
+    let is_given = drawn <= u64::from(plan.gives.unwrap_or(u32::MAX));
+    (fits && is_given).then_some(levels).ok_or(NoLeast::CannotBe)
 }
 
 #[test]
@@ -57,11 +51,23 @@ fn as_low_as_can_be() {
 
 #[test]
 fn what_is_no_plan() {
-    for bad in ["part 1\n", "part 0 needs 0 from 1 most 1\n", "?\n", "part 0\n5 want 0 1\n", "part 0\npart 1 needs 0 from 3 2 most 15\n"] {
+    for bad in [
+        "part 1\n",
+        "part 0 draws 2 1\n",
+        "part 0 draws\n",
+        "gives\n",
+        "part 0 needs 0 from 1 most 1\n",
+        "?\n",
+        "part 0\n5 want 0 1\n",
+        "part 0\npart 1 needs 0 from 3 2 most 15\n",
+    ] {
         assert!(!makes_sense(bad.as_bytes()), "{bad}");
         assert_eq!(least(bad.as_bytes(), &[]), Err(NoLeast::NoPlan));
     }
     assert!(makes_sense(b""));
+    assert!(makes_sense(b"gives 5\npart 0 draws 1 2\n"));
     assert!(makes_sense(b"part 0\npart 1 needs 0 from 2 3 most 15\nrun\n"));
+    assert_eq!(least(b"gives 5\npart 0 draws 1 6\n", &[1]).map(|l| l[0]), Ok(1));
+    assert_eq!(least(b"gives 5\npart 0 draws 1 6\n", &[2]), Err(NoLeast::CannotBe));
     assert_eq!(least(b"part 0\npart 1 needs 0 from 2 3 most 15\n", &[0, 2]).map(|l| l[..2].to_vec()), Ok(vec![3, 2]));
 }

@@ -1,7 +1,7 @@
 //! Lines that are none, and plans that make no sense.
 
 use super::pen::Pen;
-use super::plans::{self, part_line};
+use super::plans::{self, Part, part_line};
 
 const STRANGE: &[&[u8]] = &[
     b"",
@@ -22,6 +22,34 @@ const STRANGE: &[&[u8]] = &[
     b"part 1 needs and 0 from 1 most 3",
     b"part 1 needs 0 from 1 most most 3",
     b"part 1 wants 0",
+    b"part draws 1",
+    b"part 0 draws",
+    b"part 0 draws x",
+    b"part 0 draws -1",
+    b"part 0 draws 1 2x",
+    b"part 0 draws 1 draws 2",
+    b"part 0 draws 1 and 2",
+    b"part 0 draws 1 most 2",
+    b"part 0 draws 1 needs",
+    b"part 0 drawn 1",
+    b"part 1 draws needs 0 from 1 most 3",
+    b"part 1 draws 1 0 from 1 most 3",
+    b"part 1 needs 0 from 1 most 3 draws 1",
+    b"part 1 needs 0 from 1 draws 1 most 3",
+    b"part 1 needs draws 1 0 from 1 most 3",
+    b"gives",
+    b"gives x",
+    b"gives -1",
+    b"gives 1 2",
+    b"gives 1x",
+    b"Gives 1",
+    b"0 gives 1",
+    b"give 1",
+    b"drawn 0",
+    b"0 drawn",
+    b"Drawn",
+    b"draws",
+    b"draws 1",
     b"new plan",
     b"run 1",
     b"tick",
@@ -101,7 +129,7 @@ pub fn script(pen: &mut Pen) {
             strange(pen);
         }
         if pen.rng.percent(10) {
-            let misplaced = pen.rng.pick(&["tick 5", "least", "0 want 0 1", "bad 0", "slow 0 1", "0 give", "tick 4294967295"]);
+            let misplaced = pen.rng.pick(&["tick 5", "least", "drawn", "0 want 0 1", "bad 0", "slow 0 1", "0 give", "tick 4294967295"]);
             pen.line(misplaced);
         }
         pen.line(&line);
@@ -111,9 +139,12 @@ pub fn script(pen: &mut Pen) {
         while pen.rng.percent(40) {
             strange(pen);
         }
-        match pen.rng.below(8) {
+        match pen.rng.below(9) {
             0 => pen.line("run"),
-            1 => pen.line("part 0"),
+            1 => {
+                let misplaced = pen.rng.pick(&["part 0", "part 0 draws 1", "gives 0", "gives 5", "gives 4294967296"]);
+                pen.line(misplaced);
+            }
             2 => pen.line("tick 0"),
             3 => {
                 let user = pen.rng.pick(&["31", "32", "4294967295", "4294967296", "99999999999999999999999"]);
@@ -121,7 +152,8 @@ pub fn script(pen: &mut Pen) {
                 let level = pen.rng.pick(&["1", "15", "16", "0", "4294967297"]);
                 pen.line(&format!("{user} want {part} {level}"));
             }
-            4 => {
+            4 => pen.line("drawn"),
+            5 => {
                 let askings = pen.rng.pick(&["4294967295", "4294967296", "18446744073709551617", "2"]);
                 pen.line(&format!("slow 0 {askings}"));
             }
@@ -139,14 +171,18 @@ pub fn script(pen: &mut Pen) {
 /// A plan with one thing wrong, or almost; and lines that are passed over after it.
 pub fn plan(pen: &mut Pen) {
     let plan = plans::random(&mut pen.rng);
-    let mut lines: Vec<String> = plan.lines().collect();
+    let mut lines: Vec<String> = plan.lines();
     let at = pen.rng.below(plan.len() + 1) as usize;
     let x = at as u32;
     match pen.rng.below(16) {
-        0 => lines.insert(at, part_line(x + 1, &[])),
-        1 => lines.insert(at, part_line(x.saturating_sub(1), &[])),
-        2 => lines = (0..pen.rng.from_to(64, 66)).map(|x| part_line(x, &[])).collect(),
+        0 => lines.insert(at, part_line(x + 1, &Part::default())),
+        1 => lines.insert(at, part_line(x.saturating_sub(1), &Part::default())),
+        2 => lines = (0..pen.rng.from_to(64, 66)).map(|x| part_line(x, &Part::default())).collect(),
         3 if at > 0 => lines.truncate(at - 1),
+        4..8 => {
+            lines.truncate(at);
+            lines.push(wrong_draws(pen, x));
+        }
         _ => {
             lines.truncate(at);
             lines.push(wrong_need(pen, x));
@@ -163,6 +199,31 @@ pub fn plan(pen: &mut Pen) {
         strange(pen);
         pen.want(0, 0, 1);
         pen.tick();
+    }
+}
+
+/// A part whose draws are wrong in one way, or at the edge of being so.
+fn wrong_draws(pen: &mut Pen, x: u32) -> String {
+    let draws = pen.rng.pick(&[
+        "0",
+        "2 1",
+        "1 0",
+        "0 0 1 0",
+        "16 15",
+        "4294967295 4294967294",
+        "4294967296 4294967295",
+        "4294967295 99999999999999999999",
+        "99999999999999999999 1",
+        "1 4294967297 2",
+        "1 2 3 4 5 6 7 8 9 10 11 12 13 14 15",
+        "1 2 3 4 5 6 7 8 9 10 11 12 13 14 13",
+        "1 2 3 4 5 6 7 8 9 10 11 12 13 14 15 16",
+        "0 0 0 0 0 0 0 0 0 0 0 0 0 0 0 0",
+        "1 2 3 4 5 6 7 8 9 10 11 12 13 14 15 0 0 0 0",
+    ]);
+    match x.checked_sub(1) {
+        Some(on) if pen.rng.percent(40) => format!("part {x} draws {draws} needs {on} from 1 most 15"),
+        _ => format!("part {x} draws {draws}"),
     }
 }
 

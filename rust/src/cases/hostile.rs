@@ -37,7 +37,7 @@ pub fn slow_chain(pen: &mut Pen) {
 pub fn undoing(pen: &mut Pen) {
     let parts = pen.rng.pick(&[4, 8, 20, 64]);
     let most = pen.rng.pick(&[1, 2, 7]);
-    let plan = plans::fork(parts, most);
+    let plan = plans::drawing(&mut pen.rng, plans::fork(parts, most), 30);
     pen.plan(&plan);
     if pen.rng.percent(50) {
         let askings = pen.rng.pick(&[2, 20, 64, 65]);
@@ -61,6 +61,7 @@ pub fn undoing(pen: &mut Pen) {
 pub fn giving(pen: &mut Pen) {
     let parts = pen.rng.pick(&[2, 3, 20, 64]);
     let plan = if pen.rng.percent(50) { plans::chain(parts) } else { plans::fork(parts, 3) };
+    let plan = plans::drawing(&mut pen.rng, plan, 15);
     pen.plan(&plan);
     if pen.rng.percent(60) {
         let askings = pen.rng.pick(&[64, 64, 65, 5]);
@@ -156,9 +157,72 @@ pub fn flaky(pen: &mut Pen) {
     }
 }
 
+/// Each two of some wants can be, and no three.
+pub fn pairs(pen: &mut Pen) {
+    let (plan, root) = plans::pairs(&mut pen.rng);
+    pen.plan(&plan);
+    let slow = pen.rng.pick(&[0, 0, 30]);
+    moods(pen, &plan, slow, slow / 3);
+    let first = u32::from(root);
+    let parts = plan.len() - first;
+    for _ in 0..pen.rng.from_to(3, 20) {
+        let start = pen.rng.below(parts);
+        let users = pen.rng.pick(&[3, 3, 4]);
+        let at_once = pen.rng.percent(30);
+        for u in 0..users {
+            let level = pen.rng.pick(&[1, 1, 1, 1, 2, 15]);
+            pen.want(u, first + (start + u) % parts, level);
+            if !at_once {
+                pen.tick();
+            }
+        }
+        let ticks = pen.rng.from_to(0, users);
+        pen.ticks(ticks);
+        for u in 0..users {
+            if pen.rng.percent(60) {
+                pen.give(u);
+            }
+        }
+        if pen.rng.percent(5) {
+            pen.ticks(34);
+        }
+    }
+}
+
+/// What is on must come down before anything goes up, as there is just enough for one of two: many small parts, or a large one.
+pub fn seesaw(pen: &mut Pen) {
+    let plan = plans::seesaw(&mut pen.rng);
+    pen.plan(&plan);
+    let large = plan.len() - 1;
+    if pen.rng.percent(40) {
+        let askings = pen.rng.pick(&[2, 64, 65, 600]);
+        pen.slow(large, askings);
+    }
+    let high = pen.rng.pick(&[1, 15, 15]);
+    for _ in 0..pen.rng.from_to(2, 10) {
+        for x in 0..large {
+            pen.want(x, x, high);
+        }
+        pen.ticks(large);
+        // The first of them make room, and at times that isn't enough.
+        let fewer = pen.rng.from_to(1, large);
+        (0..fewer).for_each(|x| pen.give(x));
+        let level = fewer + u32::from(pen.rng.percent(25));
+        pen.want(31, large, level);
+        let ticks = pen.rng.pick(&[1, 1, 2]);
+        pen.ticks(ticks);
+        pen.give(31);
+        if pen.rng.percent(20) {
+            let ticks = pen.rng.pick(&[1, 34]);
+            pen.ticks(ticks);
+        }
+    }
+}
+
 /// Most pairs of wants can't be.
 pub fn tight(pen: &mut Pen) {
     let plan = plans::tight(&mut pen.rng);
+    let plan = plans::drawing(&mut pen.rng, plan, 40);
     pen.plan(&plan);
     moods(pen, &plan, 10, 5);
     wandering(pen, &plan);
@@ -198,6 +262,7 @@ pub fn crowd(pen: &mut Pen) {
         1 => plans::fork(pen.rng.pick(&[4, 20, 64]), 2),
         _ => plans::tight(&mut pen.rng),
     };
+    let plan = plans::drawing(&mut pen.rng, plan, 30);
     pen.plan(&plan);
     moods(pen, &plan, 30, 10);
     for _ in 0..pen.rng.from_to(1, 4) {

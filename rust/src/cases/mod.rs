@@ -37,13 +37,15 @@ pub fn in_plain_sight(seed: u64) -> Vec<u8> {
 fn one(pen: &mut Pen) {
     pen.messy = pen.rng.percent(10);
     match pen.rng.below(100) {
-        0..45 => wander::wander(pen),
-        45..53 => hostile::slow_chain(pen),
-        53..61 => hostile::undoing(pen),
-        61..65 => hostile::giving(pen),
-        65..67 => hostile::restless(pen),
-        67..75 => hostile::flaky(pen),
-        75..83 => hostile::tight(pen),
+        0..40 => wander::wander(pen),
+        40..46 => hostile::slow_chain(pen),
+        46..53 => hostile::undoing(pen),
+        53..57 => hostile::giving(pen),
+        57..59 => hostile::restless(pen),
+        59..66 => hostile::flaky(pen),
+        66..73 => hostile::tight(pen),
+        73..78 => hostile::pairs(pen),
+        78..83 => hostile::seesaw(pen),
         83..88 => hostile::high(pen),
         88..91 => hostile::crowd(pen),
         91..93 => hostile::waiting(pen),

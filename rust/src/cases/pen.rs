@@ -39,7 +39,7 @@ impl Pen {
     }
 
     pub fn plan(&mut self, plan: &Plan) {
-        for line in plan.lines() {
+        for line in plan.lines_with_gives_anywhere(&mut self.rng) {
             self.line(&line);
         }
         self.line("run");
@@ -85,6 +85,7 @@ impl Pen {
             1 => self.raw(b""),
             2 => self.raw(b"?"),
             3 => self.want(32, 0, 1),
+            4 | 5 => self.line("drawn"),
             _ => self.give(32),
         }
     }
@@ -99,7 +100,9 @@ impl Pen {
             if word.parse::<u32>().is_ok() && self.rng.percent(20) {
                 messy.push_str(self.rng.pick(&["0", "00", "0000000000000000000000"]));
             }
-            messy.push_str(word);
+            // What is too large counts as the largest.
+            let large = word == "4294967295" && self.rng.percent(50);
+            messy.push_str(if large { self.rng.pick(&["4294967296", "99999999999999999999"]) } else { word });
         }
         messy.push_str(self.rng.pick(&["", " ", "\t", "\r", " \r"]));
         messy

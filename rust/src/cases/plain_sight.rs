@@ -29,18 +29,19 @@ pub fn script(pen: &mut Pen) {
 fn some_plan(pen: &mut Pen) -> Plan {
     let rng = &mut pen.rng;
     let parts = plans::size(rng);
-    match rng.below(20) {
+    let plan = match rng.below(20) {
         0..14 => loop {
             let plan = plans::random(rng);
             if !plan.is_empty() {
-                return plan;
+                break plan;
             }
         },
         14 | 15 => plans::chain(parts),
         16 | 17 => plans::fork(parts, rng.from_to(1, 15)),
         18 => plans::high(parts),
         _ => plans::tight(rng),
-    }
+    };
+    plans::drawing(rng, plan, 25)
 }
 
 struct Script {

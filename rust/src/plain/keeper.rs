@@ -139,6 +139,11 @@ impl Keeper {
         least(&self.plan, &self.what_is_granted())
     }
 
+    /// What is drawn now.
+    pub fn drawn(&self) -> u64 {
+        self.plan.drawn(&self.board.states.map(State::level))
+    }
+
     pub fn tick(&mut self, out: &mut Print) {
         self.board.left = ASKINGS;
         if !self.waiting.is_empty() {

@@ -20,7 +20,8 @@ pub fn least(plan: &Plan, wanted: &Levels) -> Levels {
     levels
 }
 
-/// No part is above what one that isn't off allows. None can be above 15, as no list and no want is.
+/// No part is above what one that isn't off allows, and no more is drawn than is given. None can be above 15, as no list and no want is.
 pub fn can_be(plan: &Plan, least: &Levels) -> bool {
-    (0..plan.parts()).all(|x| least[x] == 0 || plan.needs(x).iter().all(|n| least[usize::from(n.on)] <= n.most))
+    let allowed = |x| least[x] == 0 || plan.needs(x).iter().all(|n| least[usize::from(n.on)] <= n.most);
+    (0..plan.parts()).all(allowed) && plan.drawn(least) <= plan.gives()
 }

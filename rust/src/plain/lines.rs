@@ -1,6 +1,6 @@
 //! Lines of plans and scripts, and what they say.
 
-use super::plan::{MAX_NEEDS, Need, TOP};
+use super::plan::{Draws, MAX_NEEDS, NO_DRAWS, Need, TOP};
 
 const LONGEST: usize = 4096;
 
@@ -23,17 +23,20 @@ pub enum Line {
     New,
     Run,
     Part(PartLine),
+    Gives(u32),
     Want { user: u32, part: u32, level: u32 },
     Give { user: u32 },
     Tick(u32),
     Bad(u32),
     Slow(u32, u32),
     Least,
+    Drawn,
 }
 
-/// A part and its needs, as far as a plan can hold them.
+/// A part, what it draws and what it needs, as far as a plan can hold them.
 pub struct PartLine {
     pub number: u32,
+    pub draws: Draws,
     pub needs: [Need; MAX_NEEDS],
     pub count: usize,
     /// It says something that no plan can hold.
@@ -47,6 +50,8 @@ pub fn parse(line: &[u8]) -> Option<Line> {
         b"new" => Line::New,
         b"run" => Line::Run,
         b"least" => Line::Least,
+        b"drawn" => Line::Drawn,
+        b"gives" => Line::Gives(words.number()?),
         b"part" => Line::Part(part(&mut words)?),
         b"tick" => Line::Tick(words.number()?),
         b"bad" => Line::Bad(words.number()?),
@@ -65,8 +70,14 @@ fn call(user: u32, words: &mut Words) -> Option<Line> {
 }
 
 fn part(words: &mut Words) -> Option<PartLine> {
-    let mut part = PartLine { number: words.number()?, needs: [Need::NONE; MAX_NEEDS], count: 0, spoilt: false };
-    let mut more = match words.next() {
+    let mut part = PartLine { number: words.number()?, draws: NO_DRAWS, needs: [Need::NONE; MAX_NEEDS], count: 0, spoilt: false };
+    let mut word = words.next();
+    if word == Some(b"draws") {
+        let levels;
+        (levels, word) = draws(words, &mut part.draws)?;
+        part.spoilt = levels > usize::from(TOP);
+    }
+    let mut more = match word {
         None => false,
         Some(b"needs") => true,
         Some(_) => return None,
@@ -88,6 +99,20 @@ fn part(words: &mut Words) -> Option<PartLine> {
         };
     }
     Some(part)
+}
+
+/// For how many levels it is said, and the word after that.
+fn draws<'a>(words: &mut Words<'a>, draws: &mut Draws) -> Option<(usize, Option<&'a [u8]>)> {
+    let mut levels = 0;
+    let mut word = words.next();
+    while let Some(draw) = word.and_then(number) {
+        levels += 1;
+        if let Some(rest) = draws.get_mut(levels..) {
+            rest.fill(draw);
+        }
+        word = words.next();
+    }
+    (levels > 0).then_some((levels, word))
 }
 
 /// A need, and whether a plan can hold it.

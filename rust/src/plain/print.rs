@@ -49,6 +49,10 @@ impl Print {
         self.end();
     }
 
+    pub fn number(&mut self, number: u64) {
+        self.line(&number.to_string());
+    }
+
     pub fn levels(&mut self, levels: &[u8]) {
         for (x, &level) in levels.iter().enumerate() {
             if x > 0 {

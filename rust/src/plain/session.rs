@@ -40,6 +40,10 @@ impl Session {
                 draft.add(&part);
                 true
             }
+            (Mode::Plan(draft), Some(Line::Gives(amount))) => {
+                draft.gives(amount);
+                true
+            }
             (Mode::Plan(_), Some(Line::Run)) => {
                 self.run();
                 true
@@ -74,6 +78,7 @@ fn script(keeper: &mut Keeper, line: &Line, out: &mut Print) -> bool {
         Line::Bad(x) if (x as usize) < keeper.parts() => keeper.bad(x as usize),
         Line::Slow(x, askings) if (x as usize) < keeper.parts() && askings > 0 => keeper.slow(x as usize, askings),
         Line::Least => out.levels(&keeper.least()[..keeper.parts()]),
+        Line::Drawn => out.number(keeper.drawn()),
         _ => return false,
     }
     true

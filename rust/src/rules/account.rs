@@ -12,6 +12,8 @@ pub struct Account {
     pub steps: u64,
     pub done: u64,
     pub fives: u64,
+    /// Of those, where it was only that too much would be drawn.
+    pub too_much: u64,
     pub sixes: u64,
     pub oldest: u64,
 }
@@ -36,6 +38,7 @@ impl std::ops::AddAssign for Account {
         self.steps += other.steps;
         self.done += other.done;
         self.fives += other.fives;
+        self.too_much += other.too_much;
         self.sixes += other.sixes;
         self.oldest = self.oldest.max(other.oldest);
     }

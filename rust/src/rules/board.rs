@@ -12,7 +12,7 @@ pub enum State {
 }
 
 impl State {
-    /// A rising part needs what it needs at level 1.
+    /// A rising part needs and draws what it does at level 1.
     fn level(self) -> Level {
         match self {
             State::Off => 0,
@@ -45,7 +45,7 @@ impl Board {
         must(x.0 < plan.len(), Broken::NoSuchPart)?;
         let state = self.state(x);
         let held = granted.filter(|&(part, _)| part == x).map(|(_, level)| level).max().unwrap_or(0);
-        self.states[x.0] = match step {
+        let after = match step {
             Step::Raise(_) => {
                 must(state == State::Off, Broken::NotOff)?;
                 must(self.is_served(plan, x, 1), Broken::NotServed)?;
@@ -70,6 +70,10 @@ impl Board {
                 State::Off
             }
         };
+        let mut levels = self.levels(plan);
+        levels[x.0] = after.level();
+        must(plan.is_given(&levels), Broken::DrawsTooMuch)?;
+        self.states[x.0] = after;
         Ok(())
     }
 

@@ -24,6 +24,8 @@ pub enum Broken {
     /// The level doesn't suit a part that needs it.
     DoesNotSuit,
     Needed,
+    /// More is drawn after the step than is given.
+    DrawsTooMuch,
     /// Somebody was granted it.
     TakenAway,
     /// It was asked so many times at most, and can't be good, or is bad.

@@ -2,8 +2,8 @@
 
 use super::account::Account;
 use super::fault::{Broken, Fault};
-use super::line::{Line, PartLine, ScriptLine, lines};
-use super::plan::Plan;
+use super::line::{Line, ScriptLine, lines};
+use super::plan::{Draft, Plan};
 use super::printed::Happening;
 use super::script::{Reply, Script};
 
@@ -16,7 +16,7 @@ pub fn judge(input: &[u8], output: &[u8]) -> Result<Account, Fault> {
 }
 
 enum Mode {
-    Plan(Vec<PartLine>),
+    Plan(Draft),
     Script(Box<Script>),
     PassingOver,
 }
@@ -33,7 +33,7 @@ struct Judge<'a> {
 
 impl<'a> Judge<'a> {
     fn new(output: &'a [u8]) -> Self {
-        Judge { output: Output::new(output), mode: Mode::Plan(Vec::new()), line: 0, ticks: None, account: Account::default() }
+        Judge { output: Output::new(output), mode: Mode::Plan(Draft::new()), line: 0, ticks: None, account: Account::default() }
     }
 
     fn fault(&self, broken: Broken) -> Fault {
@@ -59,12 +59,16 @@ impl<'a> Judge<'a> {
         match (&mut self.mode, line) {
             (_, Some(Line::New)) => {
                 self.end_script()?;
-                self.mode = Mode::Plan(Vec::new());
+                self.mode = Mode::Plan(Draft::new());
                 Ok(())
             }
             (Mode::PassingOver, _) => Ok(()),
-            (Mode::Plan(parts), Some(Line::Part(part))) => {
-                parts.push(part);
+            (Mode::Plan(draft), Some(Line::Part(part))) => {
+                draft.part(part);
+                Ok(())
+            }
+            (Mode::Plan(draft), Some(Line::Gives(amount))) => {
+                draft.gives(amount);
                 Ok(())
             }
             (Mode::Plan(_), Some(Line::Run)) => self.run(),
@@ -74,8 +78,8 @@ impl<'a> Judge<'a> {
     }
 
     fn run(&mut self) -> Result<(), Broken> {
-        let Mode::Plan(parts) = &self.mode else { return Ok(()) };
-        if let Some(plan) = Plan::of(parts) {
+        let Mode::Plan(draft) = &self.mode else { return Ok(()) };
+        if let Some(plan) = Plan::of(draft) {
             self.account.plans += 1;
             self.mode = Mode::Script(Box::new(Script::new(plan)));
             return Ok(());

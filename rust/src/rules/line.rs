@@ -7,6 +7,7 @@ pub enum Line {
     New,
     Run,
     Part(PartLine),
+    Gives(u32),
     Script(ScriptLine),
 }
 
@@ -17,11 +18,14 @@ pub enum ScriptLine {
     Bad(u32),
     Slow(u32, u32),
     Least,
+    Drawn,
 }
 
 /// A `part` line of the right form; what it says may make no sense.
 pub struct PartLine {
     pub part: u32,
+    /// At level 1, 2 and so on; empty where nothing is said of it.
+    pub draws: Vec<u32>,
     pub needs: Vec<NeedLine>,
 }
 
@@ -52,10 +56,10 @@ fn parse(text: &[u8]) -> Option<Line> {
     match words[..] {
         ["new"] => Some(Line::New),
         ["run"] => Some(Line::Run),
-        ["part", part] => Some(Line::Part(PartLine { part: number(part)?, needs: Vec::new() })),
-        ["part", part, "needs", ref rest @ ..] => {
-            let needs = rest.split(|&word| word == "and").map(need).collect::<Option<_>>()?;
-            Some(Line::Part(PartLine { part: number(part)?, needs }))
+        ["gives", amount] => Some(Line::Gives(number(amount)?)),
+        ["part", part, ref rest @ ..] => {
+            let (draws, rest) = draws(rest)?;
+            Some(Line::Part(PartLine { part: number(part)?, draws, needs: needs(rest)? }))
         }
         _ => script(&words).map(Line::Script),
     }
@@ -69,17 +73,38 @@ fn script(words: &[&str]) -> Option<ScriptLine> {
         ["bad", part] => ScriptLine::Bad(number(part)?),
         ["slow", part, askings] => ScriptLine::Slow(number(part)?, number(askings)?),
         ["least"] => ScriptLine::Least,
+        ["drawn"] => ScriptLine::Drawn,
         _ => return None,
     })
 }
 
+/// What is said of the draws, and the words after it.
+fn draws<'a, 'b>(words: &'b [&'a str]) -> Option<(Vec<u32>, &'b [&'a str])> {
+    let ["draws", rest @ ..] = words else { return Some((Vec::new(), words)) };
+    let end = rest.iter().position(|&word| word == "needs").unwrap_or(rest.len());
+    let (amounts, rest) = rest.split_at(end);
+    Some((numbers(amounts)?, rest))
+}
+
+fn needs(words: &[&str]) -> Option<Vec<NeedLine>> {
+    match words {
+        [] => Some(Vec::new()),
+        ["needs", rest @ ..] => rest.split(|&word| word == "and").map(need).collect(),
+        _ => None,
+    }
+}
+
 fn need(words: &[&str]) -> Option<NeedLine> {
     let [on, "from", ref levels @ .., "most", most] = *words else { return None };
-    if levels.is_empty() {
+    Some(NeedLine { on: number(on)?, levels: numbers(levels)?, most: number(most)? })
+}
+
+/// At least one.
+fn numbers(words: &[&str]) -> Option<Vec<u32>> {
+    if words.is_empty() {
         return None;
     }
-    let levels = levels.iter().map(|word| number(word)).collect::<Option<_>>()?;
-    Some(NeedLine { on: number(on)?, levels, most: number(most)? })
+    words.iter().map(|word| number(word)).collect()
 }
 
 /// Decimal digits; too large a number counts as the largest.

@@ -66,6 +66,7 @@ impl Script {
                 let levels: Vec<String> = self.least().iter().map(Level::to_string).collect();
                 Reply::Line(levels.join(" "))
             }
+            ScriptLine::Drawn => Reply::Line(self.plan.drawn(&self.board.levels(&self.plan)).to_string()),
             ScriptLine::Tick(_) => Reply::Nothing,
             ScriptLine::Bad(_) | ScriptLine::Slow(..) => Reply::NoLine,
         }
@@ -80,7 +81,7 @@ impl Script {
             }
             match happening {
                 Happening::Step(step) => self.step(step, &mut seen)?,
-                Happening::Told(user, answer) => self.told(user, answer, &mut seen)?,
+                Happening::Told(user, answer) => self.told(user, answer, &mut seen, account)?,
             }
             account.count(happening);
         }
@@ -127,7 +128,7 @@ impl Script {
         Ok(())
     }
 
-    fn told(&mut self, user: UserId, answer: Answer, seen: &mut Seen) -> Result<(), Broken> {
+    fn told(&mut self, user: UserId, answer: Answer, seen: &mut Seen, account: &mut Account) -> Result<(), Broken> {
         let asked = self.users.asked(user)?;
         let least = self.plan.least(self.users.granted().chain([(asked.part, asked.level)]));
         let can_be = self.plan.can_be(&least);
@@ -140,7 +141,8 @@ impl Script {
                 let rising = self.plan.ids().filter(|x| alone[x.0] > 0 && self.board.state(*x) == State::Rising);
                 self.paces.six(rising, self.askings.next_span(), &mut self.askings)?;
             }
-            Answer::Done | Answer::CannotBe => {}
+            Answer::CannotBe => account.too_much += u64::from(self.plan.fits(&least)),
+            Answer::Done => {}
         }
         self.users.told(user, answer == Answer::Done);
         seen.last_told = Some(asked.left);
