@@ -40,8 +40,8 @@ pub can-only : (b b' : Board) (x v : ℕ) → OnlyParts b b' → T (canBe b (and
 can-only b b' x v o t =
     let P : ℕ → (ℕ → List Need) → (ℕ → List ℕ) → ℕ → (ℕ → Wish) → Type 0 =
     λ n ns ds m ws.
-        let c : Board = record { parts = n; needs = ns; draws = ds; gives = m; part = b' .part; tried = b' .tried; wish = ws; quiet = b' .quiet; left = b' .left } in
-        T (canBe c (andAlso (granted c) x v)) in
+    let c : Board = record { parts = n; needs = ns; draws = ds; gives = m; part = b' .part; tried = b' .tried; wish = ws; quiet = b' .quiet; left = b' .left } in
+    T (canBe c (andAlso (granted c) x v)) in
     subst (λ (n : ℕ). P n (b' .needs) (b' .draws) (b' .gives) (b' .wish)) (sym (o .parts))
     (subst (λ (ns : ℕ → List Need). P (b .parts) ns (b' .draws) (b' .gives) (b' .wish)) (sym (o .needs))
     (subst (λ (ds : ℕ → List ℕ). P (b .parts) (b .needs) ds (b' .gives) (b' .wish)) (sym (o .draws))
