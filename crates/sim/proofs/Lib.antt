@@ -1,6 +1,5 @@
 pub mod Aging
 pub mod Called
-pub mod Drawing
 pub mod Fresh
 pub mod Granting
 pub mod Listed

@@ -3,7 +3,7 @@ use mathlib.Core.Path.{refl}
 use native.Mathlib.Omega.{arith}
 use Rattle.power.specs.Board.{total, drawAt, levelOf}
 use Rattle.sim.specs.Boards.{boardOf}
-use Rattle.sim.proofs.Drawing.{total-next}
+use Rattle.power.proofs.Totals.{total-next}
 use Rattle.sim.proofs.state.Sim.drawn.Needs as need
 
 pub loop-x-holds : need.loop-x-holds
