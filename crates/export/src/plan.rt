@@ -2,6 +2,7 @@
 ghost use mathlib.Core.Path.{_≡_};
 ghost use Prim.Native.Nat.{ℕ, _≤_, _<_};
 ghost use lib.ListN.{length, getD};
+ghost use Rattle.power.specs.Tables.{at};
 use play::plans::read_board;
 use power::least::least;
 use power::types::Levels;
@@ -16,19 +17,32 @@ pub const NO_PLAN: u32 = 1;
 // What is wanted can't be.
 pub const CANT_BE: u32 = 5;
 
+// What is wanted of part n, 0 past the end.
+fn want_at(wants: &[u32], n: u32) -> u32
+    ensures { λ r. ⌜ r ≡ getD (now (wants .entry)) n 0 ⌝ }
+{
+    if (n as usize) < wants.len() {
+        wants[n as usize]
+    } else {
+        0
+    }
+}
+
 // A level for each part: those of a slice, and 0 past its end.
-fn levels_of(wants: &[u32]) -> Levels {
+fn levels_of(wants: &[u32]) -> Levels
+    ensures { λ r. ⌜ ((x : ℕ) → x < 64 → at r x ≡ getD (now (wants .entry)) x 0) ⌝ }
+{
     let mut levels = Levels::new();
     for n in 0..64 {
-        if (n as usize) < wants.len() {
-            levels.put(PartId { n }, wants[n as usize]);
-        }
+        levels.put(PartId { n }, want_at(wants, n));
     }
     levels
 }
 
-// Writes the first levels, as many as there is room for.
-fn write_levels(levels: &Levels, out: &mut [u32]) {
+// Writes the levels of the first parts, as many as there is room for.
+fn write_levels(levels: &Levels, out: &mut [u32])
+    ensures { λ _. ⌜ ((x : ℕ) → x < 64 → x < length (now (out .exit)) → getD (now (out .exit)) x 0 ≡ at (now (levels .entry)) x) ⌝ }
+{
     for n in 0..64 {
         if (n as usize) < out.len() {
             out[n as usize] = levels.get(PartId { n });
