@@ -10,12 +10,11 @@ pub type RawLine<'a> = Option<&'a [u8]>;
 /// All lines. The last may lack its newline.
 pub fn lines(input: &[u8]) -> impl Iterator<Item = RawLine<'_>> {
     input.split_inclusive(|&b| b == b'\n').map(|line| {
-        let text = line.strip_suffix(b"\n");
-        let whole = text.unwrap_or(line);
-        if whole.len() > LONGEST {
+        let text = line.strip_suffix(b"\n").unwrap_or(line);
+        if text.len() > LONGEST {
             return None;
         }
-        Some(text.map_or(line, |t| t.strip_suffix(b"\r").unwrap_or(t)))
+        Some(text.strip_suffix(b"\r").unwrap_or(text))
     })
 }
 

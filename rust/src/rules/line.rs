@@ -40,13 +40,9 @@ pub fn lines(input: &[u8]) -> impl Iterator<Item = Option<Line>> {
     let ends_with_newline = input.ends_with(b"\n");
     let body = if ends_with_newline { &input[..input.len() - 1] } else { input };
     let count = if input.is_empty() { 0 } else { body.split(|&b| b == b'\n').count() };
-    body.split(|&b| b == b'\n').take(count).enumerate().map(move |(i, raw)| {
-        if raw.len() > LONGEST {
-            return None;
-        }
-        let has_newline = i + 1 < count || ends_with_newline;
-        let text = if has_newline && raw.ends_with(b"\r") { &raw[..raw.len() - 1] } else { raw };
-        parse(text)
+    body.split(|&b| b == b'\n').take(count).map(|raw| match raw.len() {
+        0..=LONGEST => parse(raw.strip_suffix(b"\r").unwrap_or(raw)),
+        _ => None,
     })
 }
 
