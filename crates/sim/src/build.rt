@@ -77,7 +77,8 @@ impl Plan {
         ensures { λ r. ⌜ Tells (needOf (now r)) k (needsAt (now (self .entry) .part) x) ⌝ }
     {
         let part = &self.part[x as usize];
-        &part.needs[k as usize]
+        let i = k as usize;
+        &part.needs[i]
     }
 
     // What part x draws at level l.

@@ -13,8 +13,8 @@ index-self-x c = omega (arith, part-listed (c .args .self .now .part) (c .args .
 pub listed-2 : need.listed-2
 listed-2 c = omega (arith, listed-need (c .args .self .now .part) (c .args .x) (c .args .k) (c .index-self-x .result) (c .pre) .1, getD (c .args .self .now .part) (c .args .x) (c .index-self-x .result) .long)
 
-pub index-part-k : need.index-part-k
-index-part-k c = listed-need (c .args .self .now .part) (c .args .x) (c .args .k) (c .index-self-x .result) (c .pre) .1
+pub index-part-i : need.index-part-i
+index-part-i c = listed-need (c .args .self .now .part) (c .args .x) (c .args .k) (c .index-self-x .result) (c .pre) .1
 
 pub returns : need.returns
-returns c = tells-need (c .args .self .now .part) (c .args .x) (c .args .k) (c .index-self-x .result) (c .index-part-k .result) (c .pre)
+returns c = tells-need (c .args .self .now .part) (c .args .x) (c .args .k) (c .index-self-x .result) (c .index-part-i .result) (c .pre)
