@@ -34,7 +34,7 @@ mod tests {
 
     const INPUT: &[u8] =
         b"part 0\npart 1 draws 2 5 needs 0 from 1 2 most 6\npart 2 needs 0 from 3 most 15 and 1 from 1 most 1\ngives 9\nrun\n\
-        bad 2\nslow 1 3\nbad 9\n0 want 1 2\n1 want 2 1\n77 give\nnonsense\ntick 5\n0 give\ntick 4000000000\nleast\nnew\npart 0\nrun\n";
+        bad 2\nslow 1 3\nbad 9\n0 want 1 2\n1 want 2 1\n77 give\nnonsense\ntick 5\n0 give\ntick 100000\nleast\nnew\npart 0\nrun\n";
 
     /// Every tag that was opened is closed, in the right order, and no text holds what would be a tag.
     fn is_well_formed(svg: &str) -> bool {
