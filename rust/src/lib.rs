@@ -3,12 +3,14 @@
 //! - [`play`] plays a whole input text and gives back what the program `buoy` would print;
 //! - [`rules`] judges such an output by the board's data sheet and the promises;
 //! - [`fewest`] counts what each want took, beside the fewest askings it can take;
+//! - [`picture`] draws what the keeper does;
 //! - [`cases`] makes plans and scripts, random and hostile;
 //! - [`plain`] is another keeper with the same rules, unproved, to compare with;
 //! - [`trial`] plays a case, judges it and compares it.
 
 pub mod cases;
 pub mod fewest;
+pub mod picture;
 pub mod plain;
 pub mod rng;
 pub mod rules;
