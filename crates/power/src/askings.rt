@@ -1,6 +1,6 @@
 // What is asked of the board: one function for each thing, that changes the board and what is known of it together.
 // `may` is what the data sheet asks; `can` is the budget of this tick.
-ghost use Rattle.std.specs.Prelude.{◌≡◌, ◌+◌, ◌<◌, not, T};
+ghost use Rattle.std.specs.Prelude.{◌≡◌, ◌+◌, ◌<◌};
 ghost use Rattle.power.specs.Board.{MayRaise, MayLower, MayLevel, Tries, raised, lowered, levelled};
 ghost use Rattle.power.specs.Mirrors.{Knows, state_at};
 ghost use Rattle.power.specs.declared.state.PartState.TheVariants.{Rising};
@@ -23,17 +23,16 @@ impl Driver {
         self.mirror.put(x, PartState::Off);
     }
 
-    pub(crate) fn raise_part<P: Parts>(&mut self, b: &mut P, x: PartId, side: bool)
-        requires may { MayRaise (board b.old) x.n side }
+    pub(crate) fn raise_part<P: Parts>(&mut self, b: &mut P, x: PartId)
+        requires may { MayRaise (board b.old) x.n }
         requires can { 0 < self.old.left }
         requires knows { Knows self.old (board b.old) }
-        ensures does { board b.new ≡ raised x.n side (board b.old) }
+        ensures does { board b.new ≡ raised x.n (board b.old) }
         ensures spends { self.new.left + 1 ≡ self.old.left }
         ensures knows { Knows self.new (board b.new) }
     {
         self.left -= 1;
-        b.raise(x.n, side);
-        self.sides.put(x, side);
+        b.raise(x.n);
         self.mirror.put(x, PartState::Rising(Tried { n: 0 }));
     }
 
@@ -55,7 +54,6 @@ impl Driver {
         requires there { x.n < (board b.old).parts }
         requires rises { Rising tried ≡ state_at self.old.mirror x.n }
         requires few { tried.n < 64 }
-        requires unhit { T (not ((board b.old).hit x.n)) }
         requires can { 0 < self.old.left }
         requires knows { Knows self.old (board b.old) }
         ensures does { Tries (board b.old) x.n result (board b.new) }

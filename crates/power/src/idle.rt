@@ -1,12 +1,11 @@
 // A tick in which nobody waits: after 32 of them the board comes down to the least for what was granted.
-ghost use Rattle.std.specs.Prelude.{◌≡◌, ◌+◌, ◌≤◌, T, None};
+ghost use Rattle.std.specs.Prelude.{◌≡◌, ◌≤◌, T, None};
 ghost use Rattle.power.specs.Board.{lean};
 ghost use Rattle.power.specs.Sound.{Sound};
 ghost use Rattle.power.specs.Mirrors.{Knows, SaysAll};
-ghost use Rattle.power.specs.Cost.{height};
-ghost use Rattle.power.specs.Moves.{OnlyParts, OrSpent};
+ghost use Rattle.power.specs.Moves.{OnlyParts};
 ghost use Rattle.power.specs.Rota.{NobodyWaits};
-ghost use Rattle.power.specs.Kept.{Ready, NobodyLost, Worked};
+ghost use Rattle.power.specs.Kept.{Kept, Worked};
 
 use crate::least::least;
 use crate::state::{Driver, Wishes};
@@ -16,37 +15,37 @@ use crate::{Keeper, Parts};
 const COMES_DOWN_AFTER: u32 = 32;
 
 impl Driver {
-    // Down towards the least for what was granted, by the sides that are fixed. False: no asking is left.
-    pub(crate) fn descend<P: Parts>(&mut self, b: &mut P, wishes: &Wishes) -> bool
+    // Down to the least for what was granted; a tick's askings are enough.
+    pub(crate) fn settle<P: Parts>(&mut self, b: &mut P, wishes: &Wishes)
         requires few { (board b.old).parts ≤ 64 }
         requires sound { Sound (board b.old) }
         requires says { SaysAll wishes.now (board b.old) }
         requires knows { Knows self.old (board b.old) }
+        requires all { self.old.left ≡ 1024 }
         ensures only { OnlyParts (board b.old) (board b.new) }
-        ensures lower { height (board b.new) + self.old.left ≤ height (board b.old) + self.new.left }
-        ensures ends { OrSpent result self.new.left (T (lean (board b.new))) }
         ensures sound { Sound (board b.new) }
+        ensures low { T (lean (board b.new)) }
         ensures knows { Knows self.new (board b.new) }
     {
         let granted = wishes.granted();
-        match least(b, &self.sides, &granted) {
-            Ok(to) => self.come_down(b, &to),
-            Err(_) => false,
+        match least(b, &granted) {
+            Ok(to) => {
+                let _through = self.come_down(b, &to);
+            }
+            Err(_) => {}
         }
     }
 }
 
 impl Keeper {
     pub(crate) fn be_idle<P: Parts>(&mut self, b: &mut P)
-        requires ready { Ready self.old (board b.old) }
-        requires room { 960 ≤ self.old.driver.left }
-        requires lost { NobodyLost (board b.old) }
+        requires kept { Kept self.old (board b.old) }
+        requires all { self.old.driver.left ≡ 1024 }
         requires nobody { NobodyWaits self.old.wishes 0 32 }
         ensures { Worked None self.new (board b.new) }
     {
         if self.idle == COMES_DOWN_AFTER {
-            // 64 parts at 15 are 960 askings
-            let _through = self.driver.descend(b, &self.wishes);
+            self.driver.settle(b, &self.wishes);
             self.quiet_tick();
             return;
         }

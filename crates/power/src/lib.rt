@@ -1,48 +1,36 @@
 // The board, whoever uses it, the keeper of its power, and the days between.
-ghost use Rattle.std.specs.Prelude.{◌≡◌, ℕ, ◌+◌, ◌<◌, ◌≤◌, true, false, not, T, length, slice_index_or};
-ghost use Rattle.power.specs.Board.{Board, MayRaise, MayLower, MayLevel, Tries, raised, lowered, levelled, is_rising, is_two, needs_on, on_of, least_of, most_of, draw_at, MayChoose, chosen, picked, wants_too, why, called, may_tell, told, in_time, ticked, Between, fell_asked, AtStart};
+ghost use Rattle.std.specs.Prelude.{◌≡◌, ℕ, ◌+◌, ◌<◌, ◌≤◌, true, false, T, length};
+ghost use Rattle.power.specs.Board.{Board, MayRaise, MayLower, MayLevel, Tries, raised, lowered, levelled, is_rising, on_of, least_of, most_of, draw_at, why, called, may_tell, told, in_time, ticked, AtStart};
 ghost use Rattle.power.specs.Promise.{LeastServes, LeastIsLeast, MoreIsMore, CannotBe};
-ghost use Rattle.power.specs.Kept.{Kept, KeptOrFell, Worked};
+ghost use Rattle.power.specs.Kept.{Kept, Worked};
 
 pub mod aims;
 mod askings;
-mod begin;
-pub mod blame;
-pub mod choose;
 mod course;
 mod down;
 mod driver;
-mod fallen;
 mod grants;
 pub mod guard;
-pub mod hits;
 mod idle;
 pub mod least;
 pub mod levels;
-mod lost;
 mod mirror;
-mod needs;
-mod recover;
 pub mod refusal;
 mod rota;
 mod serve;
-pub mod sides;
 pub mod state;
 pub mod theorems;
 pub mod theorems_walk;
 mod tick;
 mod turn;
-mod turning;
 pub mod types;
 mod up;
 mod users;
 mod wishes;
 
 use crate::driver::ASKINGS;
-use crate::fallen::fallen;
 use crate::refusal::number;
 use crate::state::{Driver, Turn, Wishes};
-use crate::types::Sides;
 
 // Users 0 to 31, parts 0 to 63, levels 1 to 15.
 #[derive(Clone, Copy)]
@@ -70,24 +58,21 @@ pub trait Parts {
 
     fn parts(&self) -> u32
         ensures { result ≡ (board self.now).parts };
-    // does it need one of two
-    fn two(&self, x: u32) -> bool
-        ensures { result ≡ is_two ((board self.now).either x) };
-    // by that side: how many others it needs; the kth of these, what that must be at least when it is at level l, and at most
-    fn needs(&self, x: u32, c: bool) -> u32
-        ensures { result ≡ length (needs_on (board self.now) x c) };
+    // how many others it needs; the kth of these, what that must be at least when it is at level l, and at most
+    fn needs(&self, x: u32) -> u32
+        ensures { result ≡ length ((board self.now).needs x) };
 
-    fn need_on(&self, x: u32, c: bool, k: u32) -> u32
-        requires { k < length (needs_on (board self.now) x c) }
-        ensures { result ≡ on_of k (needs_on (board self.now) x c) };
+    fn need_on(&self, x: u32, k: u32) -> u32
+        requires { k < length ((board self.now).needs x) }
+        ensures { result ≡ on_of k ((board self.now).needs x) };
 
-    fn need_least(&self, x: u32, c: bool, k: u32, l: u32) -> u32
-        requires { (k < length (needs_on (board self.now) x c)) × (l < 16) }
-        ensures { result ≡ least_of k l (needs_on (board self.now) x c) };
+    fn need_least(&self, x: u32, k: u32, l: u32) -> u32
+        requires { (k < length ((board self.now).needs x)) × (l < 16) }
+        ensures { result ≡ least_of k l ((board self.now).needs x) };
 
-    fn need_most(&self, x: u32, c: bool, k: u32) -> u32
-        requires { k < length (needs_on (board self.now) x c) }
-        ensures { result ≡ most_of k (needs_on (board self.now) x c) };
+    fn need_most(&self, x: u32, k: u32) -> u32
+        requires { k < length ((board self.now).needs x) }
+        ensures { result ≡ most_of k ((board self.now).needs x) };
     // what it draws at level l; what the board gives
     fn draw(&self, x: u32, l: u32) -> u32
         requires { l < 16 }
@@ -96,18 +81,13 @@ pub trait Parts {
     fn gives(&self) -> u32
         ensures { result ≡ (board self.now).gives };
 
-    // a choice is made for what u wants: a side for each part. This is no asking.
-    fn choose(&mut self, u: u32, c: &[bool; 64])
-        requires { (MayChoose (board self.old) u) × (((x : ℕ) → slice_index_or c.now x false ≡ picked (board self.old) (wants_too (board self.old) ((board self.old).wish u)) x)) }
-        ensures { board self.new ≡ chosen u (board self.old) };
-
-    // it begins to rise, by that side; is it good yet; it's off; it's at another level
-    fn raise(&mut self, x: u32, c: bool)
-        requires { MayRaise (board self.old) x c }
-        ensures { board self.new ≡ raised x c (board self.old) };
+    // it begins to rise; is it good yet; it's off; it's at another level
+    fn raise(&mut self, x: u32)
+        requires { MayRaise (board self.old) x }
+        ensures { board self.new ≡ raised x (board self.old) };
 
     fn good(&mut self, x: u32) -> bool
-        requires { (0 < (board self.old).left) × ((x < (board self.old).parts) × ((T (is_rising ((board self.old).part x))) × (T (not ((board self.old).hit x))))) }
+        requires { (0 < (board self.old).left) × ((x < (board self.old).parts) × (T (is_rising ((board self.old).part x)))) }
         ensures { Tries (board self.old) x result (board self.new) };
 
     fn lower(&mut self, x: u32)
@@ -117,18 +97,12 @@ pub trait Parts {
     fn level(&mut self, x: u32, v: u32)
         requires { MayLevel (board self.old) x v }
         ensures { board self.new ≡ levelled x v (board self.old) };
-
-    // did it go off by itself since this was last asked? This is no asking.
-    fn fell(&mut self, x: u32) -> bool
-        requires { x < (board self.old).parts }
-        ensures { (result ≡ (board self.old).fell x) × (board self.new ≡ fell_asked x (board self.old)) };
 }
 
 // Who uses it, which the keeper doesn't see.
 pub trait World: Parts {
-    // before a tick a part may have fallen
     fn next(&mut self) -> Next
-        ensures { Between (board self.old) result (board self.new) };
+        ensures { board self.new ≡ board self.old };
     // the call is taken, or turned away by a number
     fn said(&mut self, c: Call, no: u32)
         requires { no ≡ why c (board self.old) }
@@ -150,8 +124,6 @@ pub struct Keeper {
     driver: Driver,
     wishes: Wishes,
     turn: Turn,
-    // the parts whose second side is to be tried first
-    turned: Sides,
     // for how many ticks it has been quiet
     idle: u32,
 }
@@ -167,7 +139,6 @@ impl Keeper {
             driver: Driver::new(),
             wishes: Wishes::new(),
             turn: Turn::new(),
-            turned: Sides::new(),
             idle: 0,
         }
     }
@@ -186,16 +157,21 @@ impl Keeper {
     // a tick's work; one user may be told something
     pub fn work<P: Parts>(&mut self, b: &mut P) -> Option<(u32, Answer)>
         requires soon { 1024 ≤ (board b.old).left }
-        requires kept { KeptOrFell self.old (board b.old) }
+        requires kept { Kept self.old (board b.old) }
         ensures { Worked result self.new (board b.new) }
     {
         self.driver.left = ASKINGS;
-        match fallen(b) {
-            None => self.go_on(b),
-            Some(f) => {
-                self.recover(b, f);
-                self.rest_of_tick(b)
+        // while it's quiet nobody waits
+        if self.idle > 0 {
+            self.be_idle(b);
+            return None;
+        }
+        match self.wishes.head(self.turn.user) {
+            None => {
+                self.be_idle(b);
+                None
             }
+            Some(u) => self.attend(b, u),
         }
     }
 }
