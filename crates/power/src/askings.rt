@@ -11,12 +11,12 @@ use crate::types::{Level, PartId};
 
 impl Driver {
     pub(crate) fn lower_part<P: Parts>(&mut self, b: &mut P, x: PartId)
-        requires may { MayLower (board b.old) x.n }
+        requires may { MayLower (P.board b.old) x.n }
         requires can { 0 < self.old.left }
-        requires knows { Knows self.old (board b.old) }
-        ensures does { board b.new ≡ lowered x.n (board b.old) }
+        requires knows { Knows self.old (P.board b.old) }
+        ensures does { P.board b.new ≡ lowered x.n (P.board b.old) }
         ensures spends { self.new.left + 1 ≡ self.old.left }
-        ensures knows { Knows self.new (board b.new) }
+        ensures knows { Knows self.new (P.board b.new) }
     {
         self.left -= 1;
         b.lower(x.n);
@@ -24,12 +24,12 @@ impl Driver {
     }
 
     pub(crate) fn raise_part<P: Parts>(&mut self, b: &mut P, x: PartId)
-        requires may { MayRaise (board b.old) x.n }
+        requires may { MayRaise (P.board b.old) x.n }
         requires can { 0 < self.old.left }
-        requires knows { Knows self.old (board b.old) }
-        ensures does { board b.new ≡ raised x.n (board b.old) }
+        requires knows { Knows self.old (P.board b.old) }
+        ensures does { P.board b.new ≡ raised x.n (P.board b.old) }
         ensures spends { self.new.left + 1 ≡ self.old.left }
-        ensures knows { Knows self.new (board b.new) }
+        ensures knows { Knows self.new (P.board b.new) }
     {
         self.left -= 1;
         b.raise(x.n);
@@ -37,12 +37,12 @@ impl Driver {
     }
 
     pub(crate) fn level_part<P: Parts>(&mut self, b: &mut P, x: PartId, v: Level)
-        requires may { MayLevel (board b.old) x.n v.n }
+        requires may { MayLevel (P.board b.old) x.n v.n }
         requires can { 0 < self.old.left }
-        requires knows { Knows self.old (board b.old) }
-        ensures does { board b.new ≡ levelled x.n v.n (board b.old) }
+        requires knows { Knows self.old (P.board b.old) }
+        ensures does { P.board b.new ≡ levelled x.n v.n (P.board b.old) }
         ensures spends { self.new.left + 1 ≡ self.old.left }
-        ensures knows { Knows self.new (board b.new) }
+        ensures knows { Knows self.new (P.board b.new) }
     {
         self.left -= 1;
         b.level(x.n, v.n);
@@ -51,14 +51,14 @@ impl Driver {
 
     // Is a rising part good? Asked no more than 64 times.
     pub(crate) fn try_part<P: Parts>(&mut self, b: &mut P, x: PartId, tried: Tried) -> bool
-        requires there { x.n < (board b.old).parts }
+        requires there { x.n < (P.board b.old).parts }
         requires rises { Rising tried ≡ state_at self.old.mirror x.n }
         requires few { tried.n < 64 }
         requires can { 0 < self.old.left }
-        requires knows { Knows self.old (board b.old) }
-        ensures does { Tries (board b.old) x.n result (board b.new) }
+        requires knows { Knows self.old (P.board b.old) }
+        ensures does { Tries (P.board b.old) x.n result (P.board b.new) }
         ensures spends { self.new.left + 1 ≡ self.old.left }
-        ensures knows { Knows self.new (board b.new) }
+        ensures knows { Knows self.new (P.board b.new) }
     {
         self.left -= 1;
         let good = b.good(x.n);

@@ -11,14 +11,14 @@ use crate::types::Levels;
 
 impl Driver {
     pub(crate) fn go<P: Parts>(&mut self, b: &mut P, ceiling: &Levels, goal: &Levels) -> Progress
-        requires few { (board b.old).parts ≤ 64 }
-        requires sound { Sound (board b.old) }
-        requires aims { Targets (board b.old) (at ceiling.now) (at goal.now) }
-        requires knows { Knows self.old (board b.old) }
-        ensures came { CameNearer (at goal.now) self.old.left (board b.old) self.new.left (board b.new) }
-        ensures ends { AllEnd result (board b.new) (at goal.now) self.new.left }
-        ensures sound { Sound (board b.new) }
-        ensures knows { Knows self.new (board b.new) }
+        requires few { (P.board b.old).parts ≤ 64 }
+        requires sound { Sound (P.board b.old) }
+        requires aims { Targets (P.board b.old) (at ceiling.now) (at goal.now) }
+        requires knows { Knows self.old (P.board b.old) }
+        ensures came { CameNearer (at goal.now) self.old.left (P.board b.old) self.new.left (P.board b.new) }
+        ensures ends { AllEnd result (P.board b.new) (at goal.now) self.new.left }
+        ensures sound { Sound (P.board b.new) }
+        ensures knows { Knows self.new (P.board b.new) }
     {
         if !self.come_down(b, ceiling) {
             return Progress::Spent;

@@ -15,13 +15,13 @@ use crate::types::{Level, Levels, PartId};
 impl Driver {
     // One part, whose users are through. False: no asking is left.
     pub(crate) fn lower_to<P: Parts>(&mut self, b: &mut P, x: PartId, ceiling: &Levels) -> bool
-        requires part { x.n < (board b.old).parts }
-        requires down { Down (board b.old) (at ceiling.now) (x.n + 1) }
-        requires knows { Knows self.old (board b.old) }
-        ensures came { CameDown (at ceiling.now) self.old.left (board b.old) self.new.left (board b.new) }
-        ensures ends { OrSpent result self.new.left (level_of ((board b.new).part x.n) ≤ at ceiling.now x.n) }
-        ensures down { Down (board b.new) (at ceiling.now) (x.n + 1) }
-        ensures knows { Knows self.new (board b.new) }
+        requires part { x.n < (P.board b.old).parts }
+        requires down { Down (P.board b.old) (at ceiling.now) (x.n + 1) }
+        requires knows { Knows self.old (P.board b.old) }
+        ensures came { CameDown (at ceiling.now) self.old.left (P.board b.old) self.new.left (P.board b.new) }
+        ensures ends { OrSpent result self.new.left (level_of ((P.board b.new).part x.n) ≤ at ceiling.now x.n) }
+        ensures down { Down (P.board b.new) (at ceiling.now) (x.n + 1) }
+        ensures knows { Knows self.new (P.board b.new) }
     {
         let t = ceiling.get(x);
         while self.left > 0 {
@@ -40,15 +40,15 @@ impl Driver {
 
     // All parts. False: no asking is left.
     pub(crate) fn come_down<P: Parts>(&mut self, b: &mut P, ceiling: &Levels) -> bool
-        requires few { (board b.old).parts ≤ 64 }
-        requires sound { Sound (board b.old) }
-        requires fits { Fits (board b.old) (at ceiling.now) }
-        requires covers { Covers (board b.old) (at ceiling.now) }
-        requires knows { Knows self.old (board b.old) }
-        ensures came { CameDown (at ceiling.now) self.old.left (board b.old) self.new.left (board b.new) }
-        ensures ends { OrSpent result self.new.left (Below (board b.new) (at ceiling.now)) }
-        ensures sound { Sound (board b.new) }
-        ensures knows { Knows self.new (board b.new) }
+        requires few { (P.board b.old).parts ≤ 64 }
+        requires sound { Sound (P.board b.old) }
+        requires fits { Fits (P.board b.old) (at ceiling.now) }
+        requires covers { Covers (P.board b.old) (at ceiling.now) }
+        requires knows { Knows self.old (P.board b.old) }
+        ensures came { CameDown (at ceiling.now) self.old.left (P.board b.old) self.new.left (P.board b.new) }
+        ensures ends { OrSpent result self.new.left (Below (P.board b.new) (at ceiling.now)) }
+        ensures sound { Sound (P.board b.new) }
+        ensures knows { Knows self.new (P.board b.new) }
     {
         let n = b.parts();
         for x in (0..n).rev() {

@@ -17,15 +17,15 @@ const COMES_DOWN_AFTER: u32 = 32;
 impl Driver {
     // Down to the least for what was granted; a tick's askings are enough.
     pub(crate) fn settle<P: Parts>(&mut self, b: &mut P, wishes: &Wishes)
-        requires few { (board b.old).parts ≤ 64 }
-        requires sound { Sound (board b.old) }
-        requires says { SaysAll wishes.now (board b.old) }
-        requires knows { Knows self.old (board b.old) }
+        requires few { (P.board b.old).parts ≤ 64 }
+        requires sound { Sound (P.board b.old) }
+        requires says { SaysAll wishes.now (P.board b.old) }
+        requires knows { Knows self.old (P.board b.old) }
         requires all { self.old.left ≡ 1024 }
-        ensures only { OnlyParts (board b.old) (board b.new) }
-        ensures sound { Sound (board b.new) }
-        ensures low { T (lean (board b.new)) }
-        ensures knows { Knows self.new (board b.new) }
+        ensures only { OnlyParts (P.board b.old) (P.board b.new) }
+        ensures sound { Sound (P.board b.new) }
+        ensures low { T (lean (P.board b.new)) }
+        ensures knows { Knows self.new (P.board b.new) }
     {
         let granted = wishes.granted();
         match least(b, &granted) {
@@ -39,10 +39,10 @@ impl Driver {
 
 impl Keeper {
     pub(crate) fn be_idle<P: Parts>(&mut self, b: &mut P)
-        requires kept { Kept self.old (board b.old) }
+        requires kept { Kept self.old (P.board b.old) }
         requires all { self.old.driver.left ≡ 1024 }
         requires nobody { NobodyWaits self.old.wishes 0 32 }
-        ensures { Worked None self.new (board b.new) }
+        ensures { Worked None self.new (P.board b.new) }
     {
         if self.idle == COMES_DOWN_AFTER {
             self.driver.settle(b, &self.wishes);

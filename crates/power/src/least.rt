@@ -13,11 +13,11 @@ const TOP: u32 = 15;
 
 // The part that the kth need of x is on.
 fn need_on<P: Parts>(b: &P, x: PartId, k: u32) -> PartId
-    requires few { (board b.now).parts ≤ 64 }
-    requires plan { T (good_plan (board b.now)) }
-    requires part { x.n < (board b.now).parts }
-    requires need { k < length ((board b.now).needs x.n) }
-    ensures { result.n ≡ on_of k ((board b.now).needs x.n) }
+    requires few { (P.board b.now).parts ≤ 64 }
+    requires plan { T (good_plan (P.board b.now)) }
+    requires part { x.n < (P.board b.now).parts }
+    requires need { k < length ((P.board b.now).needs x.n) }
+    ensures { result.n ≡ on_of k ((P.board b.now).needs x.n) }
 {
     let n = b.need_on(x.n, k);
     PartId { n }
@@ -25,12 +25,12 @@ fn need_on<P: Parts>(b: &P, x: PartId, k: u32) -> PartId
 
 // The kth need of x, x being at level l.
 fn push_one<P: Parts>(b: &P, x: PartId, l: u32, k: u32, ls: &mut Levels)
-    requires few { (board b.now).parts ≤ 64 }
-    requires plan { T (good_plan (board b.now)) }
-    requires part { x.n < (board b.now).parts }
-    requires need { k < length ((board b.now).needs x.n) }
+    requires few { (P.board b.now).parts ≤ 64 }
+    requires plan { T (good_plan (P.board b.now)) }
+    requires part { x.n < (P.board b.now).parts }
+    requires need { k < length ((P.board b.now).needs x.n) }
     requires low { l ≤ 15 }
-    ensures { (z : ℕ) → at ls.new z ≡ and_also (at ls.old) (on_of k ((board b.now).needs x.n)) (least_of k l ((board b.now).needs x.n)) z }
+    ensures { (z : ℕ) → at ls.new z ≡ and_also (at ls.old) (on_of k ((P.board b.now).needs x.n)) (least_of k l ((P.board b.now).needs x.n)) z }
 {
     let on = need_on(b, x, k);
     ls.also(on, b.need_least(x.n, k, l));
@@ -38,11 +38,11 @@ fn push_one<P: Parts>(b: &P, x: PartId, l: u32, k: u32, ls: &mut Levels)
 
 // All needs of x, x being at level l.
 fn push<P: Parts>(b: &P, x: PartId, l: u32, ls: &mut Levels)
-    requires few { (board b.now).parts ≤ 64 }
-    requires plan { T (good_plan (board b.now)) }
-    requires part { x.n < (board b.now).parts }
+    requires few { (P.board b.now).parts ≤ 64 }
+    requires plan { T (good_plan (P.board b.now)) }
+    requires part { x.n < (P.board b.now).parts }
     requires low { l ≤ 15 }
-    ensures { Pushed ((board b.now).needs x.n) l (length ((board b.now).needs x.n)) (at ls.old) (at ls.new) }
+    ensures { Pushed ((P.board b.now).needs x.n) l (length ((P.board b.now).needs x.n)) (at ls.old) (at ls.new) }
 {
     for k in 0..b.needs(x.n) {
         push_one(b, x, l, k, ls);
@@ -51,9 +51,9 @@ fn push<P: Parts>(b: &P, x: PartId, l: u32, ls: &mut Levels)
 
 // The least levels, if none is above 15. A part is final when its turn comes: only parts after it need it.
 fn sweep<P: Parts>(b: &P, want: &Levels) -> Result<Levels, CantBe>
-    requires few { (board b.now).parts ≤ 64 }
-    requires plan { T (good_plan (board b.now)) }
-    ensures { MatchResult result (λ ls. Swept (board b.now) (at want.now) ls) (λ _. T (not (can_be (board b.now) (at want.now)))) }
+    requires few { (P.board b.now).parts ≤ 64 }
+    requires plan { T (good_plan (P.board b.now)) }
+    ensures { MatchResult result (λ ls. Swept (P.board b.now) (at want.now) ls) (λ _. T (not (can_be (P.board b.now) (at want.now)))) }
 {
     let mut ls = Levels::new();
     let parts = b.parts();
@@ -71,10 +71,10 @@ fn sweep<P: Parts>(b: &P, want: &Levels) -> Result<Levels, CantBe>
 
 // None of the needs of x is higher than x allows.
 fn needs_fit<P: Parts>(b: &P, x: PartId, ls: &Levels) -> bool
-    requires few { (board b.now).parts ≤ 64 }
-    requires plan { T (good_plan (board b.now)) }
-    requires part { x.n < (board b.now).parts }
-    ensures { result ≡ needs_fit (board b.now) (at ls.now) x.n }
+    requires few { (P.board b.now).parts ≤ 64 }
+    requires plan { T (good_plan (P.board b.now)) }
+    requires part { x.n < (P.board b.now).parts }
+    ensures { result ≡ needs_fit (P.board b.now) (at ls.now) x.n }
 {
     for k in 0..b.needs(x.n) {
         let l = ls.get(need_on(b, x, k));
@@ -87,20 +87,20 @@ fn needs_fit<P: Parts>(b: &P, x: PartId, ls: &Levels) -> bool
 
 // The same, if x isn't off.
 fn part_fits<P: Parts>(b: &P, x: PartId, ls: &Levels) -> bool
-    requires few { (board b.now).parts ≤ 64 }
-    requires plan { T (good_plan (board b.now)) }
-    requires part { x.n < (board b.now).parts }
-    ensures { result ≡ (at ls.now x.n == 0 || needs_fit (board b.now) (at ls.now) x.n) }
+    requires few { (P.board b.now).parts ≤ 64 }
+    requires plan { T (good_plan (P.board b.now)) }
+    requires part { x.n < (P.board b.now).parts }
+    ensures { result ≡ (at ls.now x.n == 0 || needs_fit (P.board b.now) (at ls.now) x.n) }
 {
     ls.get(x) == 0 || needs_fit(b, x, ls)
 }
 
 // The same of every part, for levels up to 15.
 fn all_fit<P: Parts>(b: &P, ls: &Levels) -> bool
-    requires few { (board b.now).parts ≤ 64 }
-    requires plan { T (good_plan (board b.now)) }
+    requires few { (P.board b.now).parts ≤ 64 }
+    requires plan { T (good_plan (P.board b.now)) }
     requires low { (x : ℕ) → at ls.now x ≤ 15 }
-    ensures { result ≡ parts_fit (board b.now) (at ls.now) }
+    ensures { result ≡ parts_fit (P.board b.now) (at ls.now) }
 {
     for n in 0..b.parts() {
         if !part_fits(b, PartId { n }, ls) {
@@ -112,9 +112,9 @@ fn all_fit<P: Parts>(b: &P, ls: &Levels) -> bool
 
 // What all parts draw at these levels together. 64 times 2^32 fits a u64.
 fn draws<P: Parts>(b: &P, ls: &Levels) -> u64
-    requires few { (board b.now).parts ≤ 64 }
+    requires few { (P.board b.now).parts ≤ 64 }
     requires low { (x : ℕ) → at ls.now x ≤ 15 }
-    ensures { result ≡ drawn_at (board b.now) (at ls.now) }
+    ensures { result ≡ drawn_at (P.board b.now) (at ls.now) }
 {
     let mut sum: u64 = 0;
     let parts = b.parts();
@@ -127,28 +127,28 @@ fn draws<P: Parts>(b: &P, ls: &Levels) -> u64
 
 // They draw no more than the board gives.
 fn draws_fit<P: Parts>(b: &P, ls: &Levels) -> bool
-    requires few { (board b.now).parts ≤ 64 }
+    requires few { (P.board b.now).parts ≤ 64 }
     requires low { (x : ℕ) → at ls.now x ≤ 15 }
-    ensures { result ≡ nat_le (drawn_at (board b.now) (at ls.now)) (board b.now).gives }
+    ensures { result ≡ nat_le (drawn_at (P.board b.now) (at ls.now)) (P.board b.now).gives }
 {
     draws(b, ls) <= b.gives() as u64
 }
 
 // Levels up to 15 are allowed: by each part, and all together.
 fn allowed<P: Parts>(b: &P, ls: &Levels) -> bool
-    requires few { (board b.now).parts ≤ 64 }
-    requires plan { T (good_plan (board b.now)) }
+    requires few { (P.board b.now).parts ≤ 64 }
+    requires plan { T (good_plan (P.board b.now)) }
     requires low { (x : ℕ) → at ls.now x ≤ 15 }
-    ensures { result ≡ allowed' (board b.now) (at ls.now) }
+    ensures { result ≡ allowed' (P.board b.now) (at ls.now) }
 {
     all_fit(b, ls) && draws_fit(b, ls)
 }
 
 // The least levels that serve what is wanted, if it can be.
 pub fn least<P: Parts>(b: &P, want: &Levels) -> Result<Levels, CantBe>
-    requires few { (board b.now).parts ≤ 64 }
-    requires plan { T (good_plan (board b.now)) }
-    ensures { Finds (board b.now) (at want.now) result }
+    requires few { (P.board b.now).parts ≤ 64 }
+    requires plan { T (good_plan (P.board b.now)) }
+    ensures { Finds (P.board b.now) (at want.now) result }
 {
     let ls = sweep(b, want)?;
     if allowed(b, &ls) { Ok(ls) } else { Err(CantBe) }

@@ -102,19 +102,19 @@ pub trait Parts {
 // Who uses it, which the keeper doesn't see.
 pub trait World: Parts {
     fn next(&mut self) -> Next
-        ensures { board self.new ≡ board self.old };
+        ensures { Self.board self.new ≡ Self.board self.old };
     // the call is taken, or turned away by a number
     fn said(&mut self, c: Call, no: u32)
-        requires { no ≡ why c (board self.old) }
-        ensures { board self.new ≡ called c (board self.old) };
+        requires { no ≡ why c (Self.board self.old) }
+        ensures { Self.board self.new ≡ called c (Self.board self.old) };
     // a user is told: what may be, that's the promise
     fn told(&mut self, u: u32, a: Answer)
-        requires { T (may_tell (board self.old) u a) }
-        ensures { board self.new ≡ told u a (board self.old) };
+        requires { T (may_tell (Self.board self.old) u a) }
+        ensures { Self.board self.new ≡ told u a (Self.board self.old) };
 
     fn ticks(&mut self)
-        requires { T (in_time (board self.old)) }
-        ensures { board self.new ≡ ticked (board self.old) };
+        requires { T (in_time (Self.board self.old)) }
+        ensures { Self.board self.new ≡ ticked (Self.board self.old) };
 }
 
 // What the keeper knows, at most 65,536 bytes.
@@ -131,8 +131,8 @@ pub struct Keeper {
 impl Keeper {
     // at the start: all parts are off, and nobody wants anything
     pub fn new<P: Parts>(b: &P) -> Keeper
-        requires starts { AtStart (board b.now) }
-        ensures { Kept result (board b.now) }
+        requires starts { AtStart (P.board b.now) }
+        ensures { Kept result (P.board b.now) }
     {
         Keeper {
             parts: b.parts(),
@@ -156,9 +156,9 @@ impl Keeper {
 
     // a tick's work; one user may be told something
     pub fn work<P: Parts>(&mut self, b: &mut P) -> Option<(u32, Answer)>
-        requires soon { 1024 ≤ (board b.old).left }
-        requires kept { Kept self.old (board b.old) }
-        ensures { Worked result self.new (board b.new) }
+        requires soon { 1024 ≤ (P.board b.old).left }
+        requires kept { Kept self.old (P.board b.old) }
+        ensures { Worked result self.new (P.board b.new) }
     {
         self.driver.left = ASKINGS;
         // while it's quiet nobody waits
@@ -184,7 +184,7 @@ pub fn keeper_is_small() -> bool
 
 // THE MAIN PROMISE. Whatever is wanted and given back, and whatever doesn't rise.
 pub fn days<W: Parts + World>(w: &mut W, many: u64)
-    requires starts { AtStart (board w.old) }
+    requires starts { AtStart (W.board w.old) }
 {
     let mut k = Keeper::new(w);
     let mut n: u64 = 0;

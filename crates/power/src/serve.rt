@@ -20,15 +20,15 @@ impl Keeper {
         x: PartId,
         l: Level,
     ) -> Option<Answer>
-        requires mirrors { Mirrors self.old (board b.old) }
-        requires sound { Sound (board b.old) }
-        requires part { x.n < (board b.old).parts }
+        requires mirrors { Mirrors self.old (P.board b.old) }
+        requires sound { Sound (P.board b.old) }
+        requires part { x.n < (P.board b.old).parts }
         requires all { self.old.driver.left ≡ 1024 }
-        requires aims { T self.old.turn.aiming → AimsAt (board b.old) self.old.turn.aims x.n l.n }
-        ensures pursued { Pursued result self.new.turn.aims x.n l.n (board b.old) (board b.new) }
-        ensures only { OnlyParts (board b.old) (board b.new) }
-        ensures sound { Sound (board b.new) }
-        ensures mirrors { Mirrors self.new (board b.new) }
+        requires aims { T self.old.turn.aiming → AimsAt (P.board b.old) self.old.turn.aims x.n l.n }
+        ensures pursued { Pursued result self.new.turn.aims x.n l.n (P.board b.old) (P.board b.new) }
+        ensures only { OnlyParts (P.board b.old) (P.board b.new) }
+        ensures sound { Sound (P.board b.new) }
+        ensures mirrors { Mirrors self.new (P.board b.new) }
         ensures wishes { self.new.wishes ≡ self.old.wishes }
         ensures user { self.new.turn.user ≡ u }
     {
@@ -47,10 +47,10 @@ impl Keeper {
 
     // The work for the first who waits.
     pub(crate) fn attend<P: Parts>(&mut self, b: &mut P, u: UserId) -> Option<(u32, Answer)>
-        requires kept { Kept self.old (board b.old) }
+        requires kept { Kept self.old (P.board b.old) }
         requires all { self.old.driver.left ≡ 1024 }
         requires head { IsHead self.old.wishes self.old.turn.user.n u.n }
-        ensures { Worked result self.new (board b.new) }
+        ensures { Worked result self.new (P.board b.new) }
     {
         let Wanted::Asked(x, l) = self.wishes.get(u) else {
             return None;

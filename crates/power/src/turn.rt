@@ -34,12 +34,12 @@ impl Turn {
         x: PartId,
         l: Level,
     ) -> Result<(), CantBe>
-        requires few { (board b.now).parts ≤ 64 }
-        requires sound { Sound (board b.now) }
-        requires says { SaysAll wishes.now (board b.now) }
-        requires kept { T self.old.aiming → AimsAt (board b.now) self.old.aims x.n l.n }
+        requires few { (P.board b.now).parts ≤ 64 }
+        requires sound { Sound (P.board b.now) }
+        requires says { SaysAll wishes.now (P.board b.now) }
+        requires kept { T self.old.aiming → AimsAt (P.board b.now) self.old.aims x.n l.n }
         ensures user { self.new.user ≡ u }
-        ensures aims { MatchResult result (λ _. AimsAt (board b.now) self.new.aims x.n l.n) (λ _. T (not (can_be (board b.now) (and_also (granted (board b.now)) x.n l.n)))) }
+        ensures aims { MatchResult result (λ _. AimsAt (P.board b.now) self.new.aims x.n l.n) (λ _. T (not (can_be (P.board b.now) (and_also (granted (P.board b.now)) x.n l.n)))) }
     {
         self.user = u;
         if self.aiming {

@@ -22,13 +22,13 @@ impl Driver {
         ceiling: &Levels,
         goal: &Levels,
     ) -> Progress
-        requires part { x.n < (board b.old).parts }
-        requires up { Up (board b.old) (at ceiling.now) (at goal.now) x.n }
-        requires knows { Knows self.old (board b.old) }
-        ensures came { CameNearer (at goal.now) self.old.left (board b.old) self.new.left (board b.new) }
-        ensures ends { PartEnds result (board b.new) (at goal.now) x.n self.new.left }
-        ensures up { Up (board b.new) (at ceiling.now) (at goal.now) x.n }
-        ensures knows { Knows self.new (board b.new) }
+        requires part { x.n < (P.board b.old).parts }
+        requires up { Up (P.board b.old) (at ceiling.now) (at goal.now) x.n }
+        requires knows { Knows self.old (P.board b.old) }
+        ensures came { CameNearer (at goal.now) self.old.left (P.board b.old) self.new.left (P.board b.new) }
+        ensures ends { PartEnds result (P.board b.new) (at goal.now) x.n self.new.left }
+        ensures up { Up (P.board b.new) (at ceiling.now) (at goal.now) x.n }
+        ensures knows { Knows self.new (P.board b.new) }
     {
         let l = goal.get(x);
         if l == 0 {
@@ -56,13 +56,13 @@ impl Driver {
 
     // All parts.
     pub(crate) fn go_up<P: Parts>(&mut self, b: &mut P, ceiling: &Levels, goal: &Levels) -> Progress
-        requires few { (board b.old).parts ≤ 64 }
-        requires up { Up (board b.old) (at ceiling.now) (at goal.now) 0 }
-        requires knows { Knows self.old (board b.old) }
-        ensures came { CameNearer (at goal.now) self.old.left (board b.old) self.new.left (board b.new) }
-        ensures ends { AllEnd result (board b.new) (at goal.now) self.new.left }
-        ensures sound { Sound (board b.new) }
-        ensures knows { Knows self.new (board b.new) }
+        requires few { (P.board b.old).parts ≤ 64 }
+        requires up { Up (P.board b.old) (at ceiling.now) (at goal.now) 0 }
+        requires knows { Knows self.old (P.board b.old) }
+        ensures came { CameNearer (at goal.now) self.old.left (P.board b.old) self.new.left (P.board b.new) }
+        ensures ends { AllEnd result (P.board b.new) (at goal.now) self.new.left }
+        ensures sound { Sound (P.board b.new) }
+        ensures knows { Knows self.new (P.board b.new) }
     {
         let n = b.parts();
         for x in 0..n {

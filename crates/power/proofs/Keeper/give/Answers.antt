@@ -18,6 +18,6 @@ returns-in-Nothing c b m =
 pub returns : goal.returns
 returns c b m =
     let u = c.args.u in
-    let e = something_said _ (b.wish u) (m.mirrors.says u) (λ z. c.in-default.not-Nothing (c.get.ensures ∙ z)) in
+    let e = something_said _ (b.wish u) (m.mirrors.says u) (λ z. c.in_default.not-Nothing (c.get.ensures ∙ z)) in
     let w : 0 ≡ why (Give u) b = sym (ap (λ n. cond n 3 0) e) ∙ why_give _ b (omega arith) in
-    (w, kept_give c.args.self.now _ b u (omega arith) m refl refl refl (Give u) (called_give u b (sym w)) (c.take-back.ensures b m.mirrors.says) c.over.ensures)
+    (w, kept_give c.args.self.now _ b u (omega arith) m refl refl refl (Give u) (called_give u b (sym w)) (c.take_back.ensures b m.mirrors.says) c.over.ensures)

@@ -5,6 +5,6 @@ use Rattle.power.proofs.Keeper.tick.Goals as goal
 pub returns : goal.returns
 returns c =
     record {
-      mirrors = λ b m. mirrors_ticked c.args.self.now _ b m refl refl (c.quiet-after-self.ensures b m.says m.idle) (c.rest.ensures b m.knows);
+      mirrors = λ b m. mirrors_ticked c.args.self.now _ b m refl refl (c.quiet_after-self.ensures b m.says m.idle) (c.rest.ensures b m.knows);
       turn = refl;
     }

@@ -12,7 +12,7 @@ pub loop-u-preserved : goal.loop-u-preserved
 loop-u-preserved c x =
     let ws = c.args.self.now in
     let u = c.loop-u.u in
-    c.and-granted.ensures x ∙ ap (λ m. larger m (grant_of x c.get.result)) (c.loop-u.invariant x) ∙ ap (λ w. larger (granted_by u ws x) (grant_of x w)) c.get.ensures
+    c.and_granted.ensures x ∙ ap (λ m. larger m (grant_of x c.get.result)) (c.loop-u.invariant x) ∙ ap (λ w. larger (granted_by u ws x) (grant_of x w)) c.get.ensures
     ∙ sym (granted_more ws u x)
 
 pub returns : goal.returns
