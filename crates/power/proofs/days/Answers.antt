@@ -9,5 +9,5 @@ loop-n-preserved g c =
     subst (λ (b : Board). Kept k b) (sym c.ticks.ensures)
     (elim c.match-work.branch [
       | goal.in-Some w ↦ subst (λ (b : Board). Kept k (ticked b)) (sym (ap g.W.Parts.board w.w-is ∙ w.told.ensures)) w.in-Some.ensures.2
-      | goal.in_default w ↦ subst (λ (b : Board). Kept k (ticked b)) (sym (ap g.W.Parts.board w.w-is)) w.in-default.ensures.1
+      | goal.in_default w ↦ subst (λ (b : Board). Kept k (ticked b)) (sym (ap g.W.Parts.board w.w-is)) w.in_default.ensures.1
     ])

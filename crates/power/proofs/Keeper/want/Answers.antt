@@ -17,10 +17,10 @@ returns-then-u-ge32 c b m =
       | then-u-ge32-via-else-u-ge32+else-x-self+else-l-eq0+then-l-gt15 w ↦ omega arith
     ])) m
 
-pub returns-in-default : goal.returns-in-default
-returns-in-default c b m =
+pub returns-in_default : goal.returns-in_default
+returns-in_default c b m =
     let u = c.args.u in
-    let e = something_said _ (b.wish u) (m.mirrors.says u) (λ z. c.in-default.not-Nothing (c.get.ensures ∙ z)) in
+    let e = something_said _ (b.wish u) (m.mirrors.says u) (λ z. c.in_default.not-Nothing (c.get.ensures ∙ z)) in
     kept_away c.args.self.now (Want u c.args.x c.args.l) b 2 (omega arith)
     (sym (ap (λ n. cond (not n) 2 0) e) ∙ why_want _ _ _ b (omega arith) (omega (arith, m.mirrors.parts)) (omega arith) (omega arith)) m
 

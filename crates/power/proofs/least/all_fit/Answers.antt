@@ -3,9 +3,9 @@ use Rattle.power.specs.Tables.{at}
 use Rattle.power.proofs.Fitted.{all_fit, one_unfit}
 use Rattle.power.proofs.least.all_fit.Goals as goal
 
-pub returns-then-not-part-fits : goal.returns-then-not-part-fits
-returns-then-not-part-fits g c =
-    one_unfit (g.P.Parts.board c.args.b.now) (at c.args.ls.now) c.loop-n.n c.part-fits.result (omega (arith, c.parts-n-end.ensures)) c.part-fits.ensures c.if-not-part-fits.true
+pub returns-then-not-part_fits : goal.returns-then-not-part_fits
+returns-then-not-part_fits g c =
+    one_unfit (g.P.Parts.board c.args.b.now) (at c.args.ls.now) c.loop-n.n c.part_fits.result (omega (arith, c.parts-n-end.ensures)) c.part_fits.ensures c.if-not-part_fits.true
 
 pub returns : goal.returns
 returns g c =

@@ -8,11 +8,11 @@ use Rattle.script.specs.Text.{held, value_after}
 use Rattle.script.proofs.Counted.{held_after, number_some, number_none}
 use Rattle.script.proofs.numbers.decimal.Goals as goal
 
-pub returns-then-not-is-ascii-digit : goal.returns-then-not-is-ascii-digit
-returns-then-not-is-ascii-digit c =
+pub returns-then-not-is_ascii_digit : goal.returns-then-not-is_ascii_digit
+returns-then-not-is_ascii_digit c =
     let w = c.args.word.now in
     let i = c.loop-b.b-index in
-    let no : is_ascii_digit (get_or w i 0) ≡ _ = sym c.if-not-is-ascii-digit.ensures.value in
+    let no : is_ascii_digit (get_or w i 0) ≡ _ = sym c.if-not-is_ascii_digit.ensures.value in
     number_none w (sym c.loop-b.invariant.1 ∙ at_drop_more all_ascii_digits w i 0 (omega arith) ∙ and_left (is_ascii_digit (get_or w i 0)) (all_ascii_digits (drop (i + 1) w)) no)
 
 pub loop-b-preserved : goal.loop-b-preserved
@@ -21,9 +21,9 @@ loop-b-preserved c =
     let i = c.loop-b.b-index in
     let n = c.loop-b.n in
     let rest = drop (i + 1) w in
-    let is = sym c.if-not-is-ascii-digit.ensures.value in
-    let next : c.saturating-add-n.result ≡ held (n * 10 + (get_or w i 0 - 48)) = omega arith in (
-      c.saturating-add-n.type-inv,
+    let is = sym c.if-not-is_ascii_digit.ensures.value in
+    let next : c.saturating_add-n.result ≡ held (n * 10 + (get_or w i 0 - 48)) = omega arith in (
+      c.saturating_add-n.type_inv,
       ap (λ b. b && all_ascii_digits rest) (sym is) ∙ sym (at_drop_more all_ascii_digits w i 0 (omega arith)) ∙ c.loop-b.invariant.1,
       ap (λ (m : ℕ). held (value_after m rest)) next ∙ held_after (n * 10 + (get_or w i 0 - 48)) rest ∙ sym (at_drop_more (λ (bs : List ℕ). held (value_after n bs)) w i 0 (omega arith)) ∙ c.loop-b.invariant.2,
     )
@@ -34,4 +34,4 @@ returns c =
     let i = c.loop-b.b-index in
     let n = c.loop-b.n in
     let value : held (value_after n (drop i w)) ≡ held n = at_drop_all (λ (bs : List ℕ). held (value_after n bs)) w i (omega arith) in
-    number_some w n (eqb-false (length w) 0 (sym c.if-is-empty.ensures)) (sym c.loop-b.invariant.1 ∙ at_drop_all all_ascii_digits w i (omega arith)) (omega (arith, value, c.loop-b.invariant.2))
+    number_some w n (eqb-false (length w) 0 (sym c.if-is_empty.ensures)) (sym c.loop-b.invariant.1 ∙ at_drop_all all_ascii_digits w i (omega arith)) (omega (arith, value, c.loop-b.invariant.2))

@@ -7,6 +7,6 @@ use Rattle.script.proofs.read.part.Goals as goal
 
 pub returns-in-None : goal.returns-in-None
 returns-in-None c =
-    let x = c.in-ok-x.x in
-    ap Some (c.without-needs.ensures [] c.none.ensures)
-    ∙ sym (number_first part_line x (words_of c.args.words.rest.now) (words_of c.number.new.words.rest.now) c.in-ok-x.ensures.0 ∙ ap (part_line x) c.in-None.ensures)
+    let x = c.in_ok-x.x in
+    ap Some (c.without_needs.ensures [] c.none.ensures)
+    ∙ sym (number_first part_line x (words_of c.args.words.rest.now) (words_of c.number.new.words.rest.now) c.in_ok-x.ensures.0 ∙ ap (part_line x) c.in-None.ensures)

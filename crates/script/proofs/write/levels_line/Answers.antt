@@ -9,7 +9,7 @@ pub loop-i-preserved : goal.loop-i-preserved
 loop-i-preserved c =
     let levels = c.args.levels.now in
     let i = c.loop-i.i in
-    c.if-not-write-level.ensures ∙ ap (λ (l : List ℕ). l ++ (gap (ltb 0 i) ++ decimal (get_or levels i 0))) c.loop-i.invariant ∙ spaced_more levels i (omega arith)
+    c.if-not-write_level.ensures ∙ ap (λ (l : List ℕ). l ++ (gap (ltb 0 i) ++ decimal (get_or levels i 0))) c.loop-i.invariant ∙ spaced_more levels i (omega arith)
 
 pub returns : goal.returns
 returns c =

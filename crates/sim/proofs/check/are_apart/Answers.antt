@@ -9,12 +9,12 @@ pub loop-i-init : goal.loop-i-init
 loop-i-init c = every_none (is_new c.args.part.now.needs)
 
 pub loop-i-preserved : goal.loop-i-preserved
-loop-i-preserved c = every_more (is_new c.args.part.now.needs) c.loop-i.i c.loop-i.invariant c.if-not-is-new.ensures
+loop-i-preserved c = every_more (is_new c.args.part.now.needs) c.loop-i.i c.loop-i.invariant c.if-not-is_new.ensures
 
-pub returns-then-not-is-new : goal.returns-then-not-is-new
-returns-then-not-is-new c =
+pub returns-then-not-is_new : goal.returns-then-not-is_new
+returns-then-not-is_new c =
     let p = c.args.part.now in
-    every_false p.count (is_new p.needs) c.loop-i.i (omega arith) c.if-not-is-new.ensures ∙ sym (apart_first p.count p.needs (omega arith))
+    every_false p.count (is_new p.needs) c.loop-i.i (omega arith) c.if-not-is_new.ensures ∙ sym (apart_first p.count p.needs (omega arith))
 
 pub returns : goal.returns
 returns c =

@@ -16,14 +16,14 @@ loop-k-preserved c =
     let k = c.loop-k.k in
     let h : k < length ns = omega arith in
     every_more (λ j. good_need c.args.x (need_of (get_or ns j no_need))) k c.loop-k.invariant
-    (subst (λ (n : PlanNeed). true ≡ good_need c.args.x (need_of n)) (get_or_default ns k c.index-part-k.result no_need h) c.if-not-need-makes-sense.ensures)
+    (subst (λ (n : PlanNeed). true ≡ good_need c.args.x (need_of n)) (get_or_default ns k c.index-part-k.result no_need h) c.if-not-need_makes_sense.ensures)
 
-pub returns-then-not-need-makes-sense : goal.returns-then-not-need-makes-sense
-returns-then-not-need-makes-sense c =
+pub returns-then-not-need_makes_sense : goal.returns-then-not-need_makes_sense
+returns-then-not-need_makes_sense c =
     let p = c.args.part.now in
     let k = c.loop-k.k in
     let h : k < length p.needs = omega arith in
-    let e = subst (λ (n : PlanNeed). false ≡ good_need c.args.x (need_of n)) (get_or_default p.needs k c.index-part-k.result no_need h) c.if-not-need-makes-sense.ensures in
+    let e = subst (λ (n : PlanNeed). false ≡ good_need c.args.x (need_of n)) (get_or_default p.needs k c.index-part-k.result no_need h) c.if-not-need_makes_sense.ensures in
     every_false p.count (λ j. good_need c.args.x (need_of (get_or p.needs j no_need))) k (omega arith) e ∙ sym (all_first (good_need c.args.x) p.count p.needs (omega arith))
 
 pub returns : goal.returns

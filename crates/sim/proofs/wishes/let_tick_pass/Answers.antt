@@ -21,18 +21,18 @@ loop-u-preserved c =
     let h : u < length c.loop-u.wishes = omega (arith, i.0) in
     let here : wish_of (get_or c.loop-u.wishes u c.index-wishes-u.result) ≡ w u =
     ap wish_of (get_or_default c.loop-u.wishes u c.index-wishes-u.result Nothing h) ∙ i.2 u ∙ grown_here u w in
-    let is : c.is-asked.result ≡ f u = c.is-asked.ensures ∙ ap is_asked here in (
+    let is : c.is_asked.result ≡ f u = c.is_asked.ensures ∙ ap is_asked here in (
       rw length-set i.0,
-      some_more f u c.if-is-asked.waiting
-          (elim c.if-is-asked.branch [
-            | then-is-asked t ↦ t.waiting-is ∙ or_true (some' u f) (f u) (sym is ∙ t.if-is-asked.true)
-            | else-is-asked t ↦ t.waiting-is ∙ i.1 ∙ or_false (some' u f) (f u) (sym is ∙ t.if-is-asked.false)
+      some_more f u c.if-is_asked.waiting
+          (elim c.if-is_asked.branch [
+            | then-is-asked t ↦ t.waiting-is ∙ or_true (some' u f) (f u) (sym is ∙ t.if-is_asked.true)
+            | else-is-asked t ↦ t.waiting-is ∙ i.1 ∙ or_false (some' u f) (f u) (sym is ∙ t.if-is_asked.false)
           ]),
-      grown_more c.loop-u.wishes u w c.a-tick-older.result (omega (arith, i.0)) (c.a-tick-older.ensures ∙ ap older here) i.2,
+      grown_more c.loop-u.wishes u w c.a_tick_older.result (omega (arith, i.0)) (c.a_tick_older.ensures ∙ ap older here) i.2,
     )
 
-pub a-tick-older-requires : goal.a-tick-older-requires
-a-tick-older-requires c =
+pub a_tick_older-requires : goal.a_tick_older-requires
+a_tick_older-requires c =
     let w : ℕ → Wish = λ k. wish_of (get_or c.args.wishes.now k Nothing) in
     let h : c.loop-u.u < length c.loop-u.wishes = omega (arith, c.loop-u.invariant.0) in
     ap young (ap wish_of (get_or_default c.loop-u.wishes c.loop-u.u c.index-wishes-u.result Nothing h) ∙ c.loop-u.invariant.2 c.loop-u.u ∙ grown_here c.loop-u.u w) ∙ c.requires c.loop-u.u c.loop-u-test.true

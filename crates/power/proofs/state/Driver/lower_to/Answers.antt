@@ -6,8 +6,8 @@ use Rattle.power.proofs.Sweeps.{down_steps}
 use Rattle.power.proofs.Moved.{may_level_down, lowers_on, levels_down}
 use Rattle.power.proofs.state.Driver.lower_to.Goals as goal
 
-pub lower-part-requires : goal.lower-part-requires
-lower-part-requires g c =
+pub lower_part-requires : goal.lower_part-requires
+lower_part-requires g c =
     let i = c.loop-self.invariant in
     let b = g.P.Parts.board c.loop-self.b in
     let v = level_shown c.loop-self.self.mirror b c.args.x.n c.level-v.result i.2.parts c.level-v.ensures in
@@ -25,19 +25,19 @@ loop-self-preserved-then-t-eq0 g c =
     let v = level_shown c.loop-self.self.mirror b c.args.x.n c.level-v.result i.2.parts c.level-v.ensures in
     let r =
     lowers_on (at c.args.ceiling.now) _ _ _ b c.args.x.n i.0 i.1 (omega (arith, i.0.only.parts, c.requires.part)) (omega (arith, i.2.left)) (omega (arith, c.get-t.ensures))
-    _ c.lower-part.ensures.spends _ (omega (arith, c.get-t.ensures)) c.lower-part.ensures.does in
-    (r.0, r.1, c.lower-part.ensures.knows)
+    _ c.lower_part.ensures.spends _ (omega (arith, c.get-t.ensures)) c.lower_part.ensures.does in
+    (r.0, r.1, c.lower_part.ensures.knows)
 
-pub invariant-of-level-part : goal.invariant-of-level-part
-invariant-of-level-part g c =
+pub invariant_of-level_part : goal.invariant_of-level_part
+invariant_of-level_part g c =
     let i = c.loop-self.invariant in
     let b = g.P.Parts.board c.loop-self.b in
     let v = level_shown c.loop-self.self.mirror b c.args.x.n c.level-v.result i.2.parts c.level-v.ensures in
     let top = level_top b i.1.sound c.args.x.n (omega (arith, i.0.only.parts, c.requires.part)) in
-    (omega arith, omega (arith, top))
+    record { on = omega arith; top = omega (arith, top) }
 
-pub level-part-requires : goal.level-part-requires
-level-part-requires g c =
+pub level_part-requires : goal.level_part-requires
+level_part-requires g c =
     let i = c.loop-self.invariant in
     let b = g.P.Parts.board c.loop-self.b in
     let v = level_shown c.loop-self.self.mirror b c.args.x.n c.level-v.result i.2.parts c.level-v.ensures in
@@ -55,5 +55,5 @@ loop-self-preserved g c =
     let v = level_shown c.loop-self.self.mirror b c.args.x.n c.level-v.result i.2.parts c.level-v.ensures in
     let r =
     levels_down (at c.args.ceiling.now) _ _ _ b c.args.x.n i.0 i.1 (omega (arith, i.0.only.parts, c.requires.part)) (omega (arith, i.2.left)) (omega (arith, c.get-t.ensures))
-    _ c.level-part.ensures.spends _ _ (omega arith) (omega (arith, c.get-t.ensures)) c.level-part.ensures.does in
-    (r.0, r.1, c.level-part.ensures.knows)
+    _ c.level_part.ensures.spends _ _ (omega arith) (omega (arith, c.get-t.ensures)) c.level_part.ensures.does in
+    (r.0, r.1, c.level_part.ensures.knows)

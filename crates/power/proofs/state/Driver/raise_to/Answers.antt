@@ -6,8 +6,8 @@ use Rattle.power.proofs.Sweeps.{up_steps}
 use Rattle.power.proofs.Moved.{may_level_up, raises_on, levels_up, tries_on}
 use Rattle.power.proofs.state.Driver.raise_to.Goals as goal
 
-pub raise-part-requires : goal.raise-part-requires
-raise-part-requires g c =
+pub raise_part-requires : goal.raise_part-requires
+raise_part-requires g c =
     let i = c.loop-self.invariant in
     let b = g.P.Parts.board c.loop-self.b in
     let off = off_is _ (part_shown c.loop-self.self.mirror b c.args.x.n _ i.2.parts c.in-Off.ensures) in
@@ -25,8 +25,8 @@ loop-self-preserved-in-Off g c =
     let off = part_shown c.loop-self.self.mirror b c.args.x.n _ i.2.parts c.in-Off.ensures in
     let r =
     raises_on (at c.args.ceiling.now) (at c.args.goal.now) _ _ _ b c.args.x.n i.0 i.1 (omega (arith, i.0.only.parts, c.requires.part)) (omega (arith, c.get-l.ensures))
-    _ c.raise-part.ensures.spends _ (omega (arith, i.2.left)) off c.raise-part.ensures.does in
-    (r.0, r.1, c.raise-part.ensures.knows)
+    _ c.raise_part.ensures.spends _ (omega (arith, i.2.left)) off c.raise_part.ensures.does in
+    (r.0, r.1, c.raise_part.ensures.knows)
 
 pub loop-self-preserved-in-Rising : goal.loop-self-preserved-in-Rising
 loop-self-preserved-in-Rising g c =
@@ -35,8 +35,8 @@ loop-self-preserved-in-Rising g c =
     let tried = tried_shown c.loop-self.self.mirror b c.args.x.n c.in-Rising.n i.2.parts c.in-Rising.ensures in
     let r =
     tries_on (at c.args.ceiling.now) (at c.args.goal.now) _ _ _ b c.args.x.n i.0 i.1 (omega (arith, i.0.only.parts, c.requires.part)) (omega (arith, c.get-l.ensures))
-    _ c.try-part-good.ensures.spends _ _ (omega (arith, c.in-Rising.n.most)) c.try-part-good.ensures.does in
-    (r.0, r.1, c.try-part-good.ensures.knows)
+    _ c.try_part-good.ensures.spends _ _ (omega (arith, c.in-Rising.n.most)) c.try_part-good.ensures.does in
+    (r.0, r.1, c.try_part-good.ensures.knows)
 
 pub returns-then-v-l : goal.returns-then-v-l
 returns-then-v-l g c =
@@ -45,8 +45,8 @@ returns-then-v-l g c =
     let on = on_is _ c.in-On.v.n (part_shown c.loop-self.self.mirror b c.args.x.n _ i.2.parts c.in-On.ensures) in
     record { came = i.0; ends = (omega (arith, on.1, c.get-l.ensures), λ _. on.0); up = i.1; knows = i.2 }
 
-pub level-part-requires : goal.level-part-requires
-level-part-requires g c =
+pub level_part-requires : goal.level_part-requires
+level_part-requires g c =
     let i = c.loop-self.invariant in
     let b = g.P.Parts.board c.loop-self.b in
     let on = part_shown c.loop-self.self.mirror b c.args.x.n _ i.2.parts c.in-On.ensures in
@@ -64,5 +64,5 @@ loop-self-preserved g c =
     let on = part_shown c.loop-self.self.mirror b c.args.x.n _ i.2.parts c.in-On.ensures in
     let r =
     levels_up (at c.args.ceiling.now) (at c.args.goal.now) _ _ _ b c.args.x.n i.0 i.1 (omega (arith, i.0.only.parts, c.requires.part)) (omega (arith, c.get-l.ensures))
-    _ c.level-part.ensures.spends _ (omega (arith, i.2.left)) c.in-On.v.n on (omega (arith, c.get-l.ensures)) c.level-part.ensures.does in
-    (r.0, r.1, c.level-part.ensures.knows)
+    _ c.level_part.ensures.spends _ (omega (arith, i.2.left)) c.in-On.v.n on (omega (arith, c.get-l.ensures)) c.level_part.ensures.does in
+    (r.0, r.1, c.level_part.ensures.knows)

@@ -2,8 +2,8 @@ use Rattle.power.specs.Tables.{at}
 use Rattle.power.proofs.Settling.{never_unfit, settle_fits, settle_covers, settle_lean}
 use Rattle.power.proofs.state.Driver.settle.Goals as goal
 
-pub come-down-through-requires : goal.come-down-through-requires
-come-down-through-requires g c =
+pub come_down-through-requires : goal.come_down-through-requires
+come_down-through-requires g c =
     let b = g.P.Parts.board c.args.b.now in
     let f = at c.granted-granted.result in
     let e = c.granted-granted.ensures b c.requires.says in
@@ -20,7 +20,7 @@ returns-in-Ok g c =
     let b = g.P.Parts.board c.args.b.now in
     let f = at c.granted-granted.result in
     let e = c.granted-granted.ensures b c.requires.says in
-    let r = c.come-down-through.ensures in
+    let r = c.come_down-through.ensures in
     record {
       only = r.came.only;
       sound = r.sound;

@@ -6,5 +6,5 @@ use Rattle.power.proofs.types.Levels.and_granted.Goals as goal
 pub returns-in-Granted : goal.returns-in-Granted
 returns-in-Granted c x = c.also.ensures x ∙ grant_some (at c.args.self.now) c.args.w c.in-Granted.x c.in-Granted.l x c.in-Granted.is
 
-pub returns-in-default : goal.returns-in-default
-returns-in-default c x = grant_none (at c.args.self.now) c.args.w x c.in-default.not-Granted
+pub returns-in_default : goal.returns-in_default
+returns-in_default c x = grant_none (at c.args.self.now) c.args.w x c.in_default.not-Granted

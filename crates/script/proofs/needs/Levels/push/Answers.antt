@@ -6,8 +6,8 @@ use Rattle.script.proofs.needs.Levels.push.Goals as goal
 pub returns-then-level-gt-TOP : goal.returns-then-level-gt-TOP
 returns-then-level-gt-TOP c ls h = levelled_not c.args.self.now _ ls c.args.level h refl (inl (omega arith))
 
-pub returns-then-self-ge-MOST-LEVELS : goal.returns-then-self-ge-MOST-LEVELS
-returns-then-self-ge-MOST-LEVELS c ls h = levelled_not c.args.self.now _ ls c.args.level h refl (inr (omega arith))
+pub returns-then-self-ge-MOST_LEVELS : goal.returns-then-self-ge-MOST_LEVELS
+returns-then-self-ge-MOST_LEVELS c ls h = levelled_not c.args.self.now _ ls c.args.level h refl (inr (omega arith))
 
 pub returns : goal.returns
-returns c ls h = levelled_more c.args.self.now _ ls c.args.level h refl refl (omega arith) (omega arith) c.spread-from.ensures
+returns c ls h = levelled_more c.args.self.now _ ls c.args.level h refl refl (omega arith) (omega arith) c.spread_from.ensures

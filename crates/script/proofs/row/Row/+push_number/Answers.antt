@@ -8,12 +8,12 @@ use Rattle.script.proofs.row.Row.+push_number.Goals as goal
 pub returns-then-n-lt10 : goal.returns-then-n-lt10
 returns-then-n-lt10 t c =
     let n = c.args.n in
-    as_well c.push-byte.result (row_text c.args.self.now) (row_text c.push-byte.new.self) ((48 + n) ∷ []) (decimal n) (sym (decimal_digit n c.if-n-lt10.true)) c.push-byte.ensures
+    as_well c.push_byte.result (row_text c.args.self.now) (row_text c.push_byte.new.self) ((48 + n) ∷ []) (decimal n) (sym (decimal_digit n c.if-n-lt10.true)) c.push_byte.ensures
 
 pub returns : goal.returns
 returns t c =
     let n = c.args.n in
     let was = row_text c.args.self.now in
-    let is = row_text c.push-byte-2.new.self in
-    as_well c.push-byte-2.result was is (decimal (n / 10) ++ ((48 + n % 10) ∷ [])) (decimal n) (sym (decimal_step n (omega arith) (omega arith)))
-    (one_more c.push-byte-2.result was (row_text c.push-number.new.self) is (decimal (n / 10)) ((48 + n % 10) ∷ []) c.if-not-push-number.ensures c.push-byte-2.ensures)
+    let is = row_text c.push_byte-2.new.self in
+    as_well c.push_byte-2.result was is (decimal (n / 10) ++ ((48 + n % 10) ∷ [])) (decimal n) (sym (decimal_step n (omega arith) (omega arith)))
+    (one_more c.push_byte-2.result was (row_text c.push_number.new.self) is (decimal (n / 10)) ((48 + n % 10) ∷ []) c.if-not-push_number.ensures c.push_byte-2.ensures)

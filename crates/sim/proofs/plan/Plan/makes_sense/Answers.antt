@@ -18,11 +18,11 @@ pub loop-x-preserved : goal.loop-x-preserved
 loop-x-preserved c =
     let ps = c.args.self.now.part in
     let x = c.loop-x.x in
-    every_more (λ y. sense y (needs_at ps y) (draws_at ps y)) x c.loop-x.invariant (listed_sense true ps x c.index-self-x.result (omega arith) c.if-not-part-makes-sense.ensures)
+    every_more (λ y. sense y (needs_at ps y) (draws_at ps y)) x c.loop-x.invariant (listed_sense true ps x c.index-self-x.result (omega arith) c.if-not-part_makes_sense.ensures)
 
-pub returns-then-not-part-makes-sense : goal.returns-then-not-part-makes-sense
-returns-then-not-part-makes-sense c =
+pub returns-then-not-part_makes_sense : goal.returns-then-not-part_makes_sense
+returns-then-not-part_makes_sense c =
     let ps = c.args.self.now.part in
     let x = c.loop-x.x in
     every_false c.args.self.now.parts (λ y. sense y (needs_at ps y) (draws_at ps y)) x (omega arith)
-    (listed_sense false ps x c.index-self-x.result (omega arith) c.if-not-part-makes-sense.ensures)
+    (listed_sense false ps x c.index-self-x.result (omega arith) c.if-not-part_makes_sense.ensures)

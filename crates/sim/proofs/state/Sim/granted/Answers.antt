@@ -19,5 +19,5 @@ loop-u-preserved c x =
     let ws = c.args.self.now.wishes in
     let u = c.loop-u.u in
     let h : u < length ws = omega arith in
-    most_more (λ v. want_of x (wish_of (get_or ws v Nothing))) u (at c.loop-u.levels x) (at c.add-grant.new.levels x) (c.loop-u.invariant x)
-    (c.add-grant.ensures x ∙ ap (λ (w : Wanted). larger (at c.loop-u.levels x) (want_of x (wish_of w))) (get_or_default ws u c.index-self-u.result Nothing h))
+    most_more (λ v. want_of x (wish_of (get_or ws v Nothing))) u (at c.loop-u.levels x) (at c.add_grant.new.levels x) (c.loop-u.invariant x)
+    (c.add_grant.ensures x ∙ ap (λ (w : Wanted). larger (at c.loop-u.levels x) (want_of x (wish_of w))) (get_or_default ws u c.index-self-u.result Nothing h))

@@ -2,9 +2,9 @@ use Rattle.std.proofs.Common.{rules}
 use Rattle.power.specs.Board.{older, young}
 use Rattle.sim.proofs.state.Wanted.a_tick_older.Goals as goal
 
-pub overflow-add-result : goal.overflow-add-result
+pub overflow_add-result : goal.overflow_add-result
 unfolding older young
-overflow-add-result c = search rules
+overflow_add-result c = search rules
 
 pub returns-in-Nothing : goal.returns-in-Nothing
 unfolding older young

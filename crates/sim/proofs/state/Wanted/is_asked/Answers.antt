@@ -6,6 +6,6 @@ pub returns-in-Asked : goal.returns-in-Asked
 unfolding is_asked
 returns-in-Asked c = search rules
 
-pub returns-in-default : goal.returns-in-default
+pub returns-in_default : goal.returns-in_default
 unfolding is_asked
-returns-in-default c = search rules
+returns-in_default c = search rules

@@ -11,29 +11,29 @@ pub returns-then-no-ne0 : goal.returns-then-no-ne0
 returns-then-no-ne0 c =
     record { does = away c.args.c (board_of c.args.self.now) (λ e. c.if-no-ne0.true (c.requires ∙ e)); paces = (refl, refl) }
 
-pub invariant-of-set-wish : goal.invariant-of-set-wish
-invariant-of-set-wish c =
+pub invariant_of-set_wish : goal.invariant_of-set_wish
+invariant_of-set_wish c =
     let b = board_of c.args.self.now in
     let w = c.in-Want in
     let r = want_bounds w.u w.x w.l b (why_is c.args.c (Want w.u w.x w.l) b c.args.no w.is c.requires c.if-no-ne0.false) in
     (omega (arith, r.1), tt)
 
-pub invariant-of-set-wish-in-Want : goal.invariant-of-set-wish-in-Want
-invariant-of-set-wish-in-Want c =
+pub invariant_of-set_wish-in-Want : goal.invariant_of-set_wish-in-Want
+invariant_of-set_wish-in-Want c =
     let b = board_of c.args.self.now in
     let w = c.in-Want in
     let r = want_bounds w.u w.x w.l b (why_is c.args.c (Want w.u w.x w.l) b c.args.no w.is c.requires c.if-no-ne0.false) in
     (r.2, (r.3, tt))
 
-pub set-wish-requires : goal.set-wish-requires
-set-wish-requires c =
+pub set_wish-requires : goal.set_wish-requires
+set_wish-requires c =
     let b = board_of c.args.self.now in
     let w = c.in-Want in
     let r = want_bounds w.u w.x w.l b (why_is c.args.c (Want w.u w.x w.l) b c.args.no w.is c.requires c.if-no-ne0.false) in
     record { user = r.0 }
 
-pub set-wish-requires-in-Give : goal.set-wish-requires-in-Give
-set-wish-requires-in-Give c =
+pub set_wish-requires-in-Give : goal.set_wish-requires-in-Give
+set_wish-requires-in-Give c =
     let b = board_of c.args.self.now in
     let g = c.in-Give in
     record { user = give_bounds g.u b (why_is c.args.c (Give g.u) b c.args.no g.is c.requires c.if-no-ne0.false) }
@@ -43,11 +43,11 @@ returns-in-Want c =
     let b = board_of c.args.self.now in
     let w = c.in-Want in
     let z = why_is c.args.c (Want w.u w.x w.l) b c.args.no w.is c.requires c.if-no-ne0.false in
-    record { does = c.set-wish.ensures.does ∙ want_taken w.u w.x w.l b z ∙ ap (λ (k : Call). called k b) (sym w.is); paces = c.set-wish.ensures.paces }
+    record { does = c.set_wish.ensures.does ∙ want_taken w.u w.x w.l b z ∙ ap (λ (k : Call). called k b) (sym w.is); paces = c.set_wish.ensures.paces }
 
 pub returns-in-Give : goal.returns-in-Give
 returns-in-Give c =
     let b = board_of c.args.self.now in
     let g = c.in-Give in
     let z = why_is c.args.c (Give g.u) b c.args.no g.is c.requires c.if-no-ne0.false in
-    record { does = c.set-wish-in-Give.ensures.does ∙ give_taken g.u b z ∙ ap (λ (k : Call). called k b) (sym g.is); paces = c.set-wish-in-Give.ensures.paces }
+    record { does = c.set_wish-in-Give.ensures.does ∙ give_taken g.u b z ∙ ap (λ (k : Call). called k b) (sym g.is); paces = c.set_wish-in-Give.ensures.paces }
