@@ -36,7 +36,8 @@ def main(argv):
             text = open(f, encoding="utf-8").read()
             own = set()
             for m in re.finditer(r"(?m)^use (Rattle\.[\w.+]+)\.\{([^}]*)\}", text):
-                own |= {n.strip() for n in m.group(2).split(",")}
+                if not m.group(1).endswith((".Goals", ".Given")):
+                    own |= {n.strip() for n in m.group(2).split(",")}
 
             def turn(m):
                 name = m.group(0)
@@ -46,7 +47,7 @@ def main(argv):
                     name = re.sub(r"(?<![A-Za-z0-9_'])" + re.escape(dashed) + r"(?![A-Za-z0-9_'])", plain, name)
                 return name
 
-            new = "\n".join(l if l.startswith("use ") else TOKEN.sub(turn, l) for l in text.split("\n"))
+            new = "\n".join(l if l.startswith("use ") and ".Goals.{" not in l else TOKEN.sub(turn, l) for l in text.split("\n"))
             if new != text:
                 with open(f, "w", encoding="utf-8") as out:
                     out.write(new)

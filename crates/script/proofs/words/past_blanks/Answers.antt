@@ -4,7 +4,7 @@ use Rattle.std.proofs.lemmas.List.{take_rest, length-drop}
 use Rattle.script.specs.Text.{words_of}
 use Rattle.script.proofs.Spaced.{words_next, at_front}
 use Rattle.script.proofs.words.past_blanks.Goals as goal
-use Rattle.script.proofs.words.past_blanks.Goals.{then-loop-n-test+else-is-blank, else-loop-n-test}
+use Rattle.script.proofs.words.past_blanks.Goals.{then-loop-n-test+else-is_blank, else-loop-n-test}
 
 pub loop-n-preserved : goal.loop-n-preserved
 loop-n-preserved c =

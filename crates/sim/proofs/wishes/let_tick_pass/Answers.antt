@@ -6,7 +6,7 @@ use Rattle.sim.specs.declared.state.Wanted.TheVariants.{Nothing}
 use Rattle.sim.specs.Boards.{wish_of}
 use Rattle.sim.proofs.Aging.{grown_none, grown_more, grown_all, grown_here, some_more, or_true, or_false}
 use Rattle.sim.proofs.wishes.let_tick_pass.Goals as goal
-use Rattle.sim.proofs.wishes.let_tick_pass.Goals.{then-is-asked, else-is-asked}
+use Rattle.sim.proofs.wishes.let_tick_pass.Goals.{then-is_asked, else-is_asked}
 
 pub loop-u-init : goal.loop-u-init
 unfolding some'
@@ -25,8 +25,8 @@ loop-u-preserved c =
       rw length-set i.0,
       some_more f u c.if-is_asked.waiting
           (elim c.if-is_asked.branch [
-            | then-is-asked t ↦ t.waiting-is ∙ or_true (some' u f) (f u) (sym is ∙ t.if-is_asked.true)
-            | else-is-asked t ↦ t.waiting-is ∙ i.1 ∙ or_false (some' u f) (f u) (sym is ∙ t.if-is_asked.false)
+            | then-is_asked t ↦ t.waiting-is ∙ or_true (some' u f) (f u) (sym is ∙ t.if-is_asked.true)
+            | else-is_asked t ↦ t.waiting-is ∙ i.1 ∙ or_false (some' u f) (f u) (sym is ∙ t.if-is_asked.false)
           ]),
       grown_more c.loop-u.wishes u w c.a_tick_older.result (omega (arith, i.0)) (c.a_tick_older.ensures ∙ ap older here) i.2,
     )

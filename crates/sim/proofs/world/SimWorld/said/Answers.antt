@@ -16,14 +16,14 @@ invariant_of-set_wish c =
     let b = board_of c.args.self.now in
     let w = c.in-Want in
     let r = want_bounds w.u w.x w.l b (why_is c.args.c (Want w.u w.x w.l) b c.args.no w.is c.requires c.if-no-ne0.false) in
-    (omega (arith, r.1), tt)
+    record { below = omega (arith, r.1) }
 
 pub invariant_of-set_wish-in-Want : goal.invariant_of-set_wish-in-Want
 invariant_of-set_wish-in-Want c =
     let b = board_of c.args.self.now in
     let w = c.in-Want in
     let r = want_bounds w.u w.x w.l b (why_is c.args.c (Want w.u w.x w.l) b c.args.no w.is c.requires c.if-no-ne0.false) in
-    (r.2, (r.3, tt))
+    record { on = r.2; top = r.3 }
 
 pub set_wish-requires : goal.set_wish-requires
 set_wish-requires c =
