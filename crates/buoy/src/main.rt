@@ -1,4 +1,6 @@
 // Reads plans and scripts from standard input, and prints what happens. It uses no heap.
+#![tactic(auto)]
+
 use play::program::run;
 use std::io;
 

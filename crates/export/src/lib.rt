@@ -1,4 +1,6 @@
 // What Rust and C call: plans and scripts as text, and what comes of them in lent memory.
+#![tactic(auto)]
+
 pub mod plan;
 
 ghost use Rattle.std.specs.Prelude.{◌≤◌};

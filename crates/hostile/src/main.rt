@@ -1,4 +1,6 @@
 // The program `buoy` on input that is no plan and no script: each line gets a clear answer, and nothing is lost.
+#![tactic(auto)]
+
 use play::program::run;
 use std::io;
 

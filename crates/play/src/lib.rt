@@ -1,4 +1,6 @@
 // Plans and scripts from any source of lines, played on boards in memory.
+#![tactic(auto)]
+
 pub mod draft;
 pub mod plans;
 pub mod play;

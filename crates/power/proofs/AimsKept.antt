@@ -1,5 +1,5 @@
 -- What is aimed at for a want, from when it is made: after a walk, a tick, and a call of anybody else. Assumes nothing.
-use Rattle.std.proofs.Common.{◌≡◌, ℕ, ◌<◌, ◌≤◌, T, sym, refl, ◌∙◌, subst, arith}
+use Rattle.std.proofs.Common.{◌≡◌, ℕ, ◌≤◌, T, sym, ◌∙◌, subst, arith}
 use mathlib.Core.Path.{fun_ext}
 use Rattle.power.specs.declared.types.Aims.{Aims}
 use Rattle.power.specs.Board.{Board, Wish, None', Asked, Granted, is_asked, can_be, granted, and_also, good_plan, with_wish, ticked}

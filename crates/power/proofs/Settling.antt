@@ -1,5 +1,5 @@
 -- Down to the least for what was granted: it always can be, a tick's askings are enough, and the board is lean then. Assumes nothing.
-use Rattle.std.proofs.Common.{◌≡◌, ℕ, ◌+◌, ◌<◌, ◌≤◌, Bool, true, false, not, T, List, sym, ap, ◌∙◌, subst, arith, T_not}
+use Rattle.std.proofs.Common.{◌≡◌, ℕ, ◌≤◌, Bool, true, false, not, T, List, sym, ap, ◌∙◌, subst, arith, T_not}
 use mathlib.Core.Path.{fun_ext}
 use Rattle.power.specs.declared.types.Levels.{Levels}
 use Rattle.power.specs.Board.{Board, Need, Wish, granted, can_be, lean}

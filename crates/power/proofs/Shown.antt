@@ -2,7 +2,7 @@
 use Rattle.std.proofs.Common.{◌≡◌, ℕ, zero, suc, ◌+◌, ◌<◌, Bool, true, false, cond, ltb, ◌≢◌, length, get_or, set, replicate, sym, refl, ap, ◌∙◌, subst, inl, inr, arith}
 use Rattle.std.proofs.lemmas.Bool.{cases_lt, cond-true, cond-false, lt-ltb, eq-eqb, ne_eqb}
 use Rattle.std.proofs.lemmas.List.{get_or_past}
-use Rattle.power.specs.Board.{Board, Part, Off, Rising, On, level_of, put, with_parts, Tries, good, not_yet, told, is_six, ticked, AtStart}
+use Rattle.power.specs.Board.{Board, Part, On, level_of, put, with_parts, Tries, good, not_yet, told, is_six, ticked, AtStart}
 use Rattle.power.specs.Mirrors.{part_of, TriedIs, state_at, Shows, Anew}
 use Rattle.power.specs.declared.Answer.{Answer}
 use Rattle.power.specs.declared.Answer.TheVariants.{Done, No}

@@ -1,4 +1,6 @@
 // The board, whoever uses it, the keeper of its power, and the days between.
+#![tactic(auto)]
+
 ghost use Rattle.std.specs.Prelude.{◌≡◌, ℕ, ◌+◌, ◌<◌, ◌≤◌, true, false, T, length};
 ghost use Rattle.power.specs.Board.{Board, MayRaise, MayLower, MayLevel, Tries, raised, lowered, levelled, is_rising, on_of, least_of, most_of, draw_at, why, called, may_tell, told, in_time, ticked, AtStart};
 ghost use Rattle.power.specs.Promise.{LeastServes, LeastIsLeast, MoreIsMore, CannotBe};

@@ -1,8 +1,8 @@
 -- Reading digits one by one gives what they are worth, also past the largest number that is held.
-use Rattle.std.proofs.Common.{◌≡◌, ℕ, ◌+◌, ◌-◌, ◌*◌, true, false, List, [], ◌∷◌, length, Some, None, Option, sym, refl, ap, ◌∙◌, arith}
-use Rattle.std.proofs.lemmas.Bool.{cond-true, cond-false, both_ways}
+use Rattle.std.proofs.Common.{◌≡◌, ℕ, ◌+◌, ◌-◌, ◌*◌, true, false, List, [], ◌∷◌, length, Some, None, sym, refl, ap, ◌∙◌, arith}
+use Rattle.std.proofs.lemmas.Bool.{cond-true, cond-false}
 use Rattle.std.specs.Str.{all_ascii_digits}
-use Rattle.script.specs.Text.{is_number, value_after, value_of, held, number_of}
+use Rattle.script.specs.Text.{value_after, value_of, held, number_of}
 
 held_step : (n d : ℕ) → held (held n * 10 + d) ≡ held (n * 10 + d)
 held_step n d = omega arith

@@ -1,11 +1,11 @@
 -- Each form of a line is read xs what it means.
-use Rattle.std.proofs.Common.{◌≡◌, ℕ, ◌<◌, Bool, true, false, cond, eqb, List, [], ◌∷◌, ◌++◌, length, Some, None, codes, Option, sym, refl, ap, ◌∙◌, ⊎_elim, append_assoc, append-nil, arith}
+use Rattle.std.proofs.Common.{◌≡◌, ℕ, ◌<◌, true, false, eqb, List, [], ◌∷◌, ◌++◌, length, Some, None, codes, Option, sym, refl, ap, ◌∙◌, ⊎_elim, append_assoc, append-nil, arith}
 use Rattle.std.proofs.lemmas.Slice.Eq.{bytes_eq-Decides}
-use Rattle.std.proofs.lemmas.Bool.{cond-true, cond-false, cases_Bool, ne_eqb}
+use Rattle.std.proofs.lemmas.Bool.{cond-false, cases_Bool, ne_eqb}
 use Rattle.std.specs.List.{AllByRecursion as All}
 use Rattle.std.specs.Str.{bytes_eq}
 use Rattle.script.specs.Forms.{unwords, IsWord, Spells, Pairwise, NeedWords, SpellsNeed, need_before, needs_words, needs_part, part_words, ReadsBack}
-use Rattle.script.specs.Lines.{Written, Said, after, levels, most, follow, needs, from_word, first_level, line_of, rest_of, first_of, user_line, with_number, only, slow_line, draws_line, part_line, part_with, gives, want, give, tick, bad, slow}
+use Rattle.script.specs.Lines.{Written, after, levels, most, follow, needs, from_word, first_level, line_of, rest_of, first_of, user_line, with_number, only, slow_line, draws_line, part_line, part_with, gives, want, tick, bad, slow}
 use Rattle.script.specs.Text.{is_blank, ended, number_of, words_after, words_of}
 use Rattle.script.specs.declared.line.First.{First}
 use Rattle.script.specs.declared.line.First.TheVariants as first

@@ -1,9 +1,8 @@
 -- The last level holds for all that follow, and what no plan can hold is known.
-use Rattle.std.proofs.Common.{◌≡◌, ℕ, zero, suc, ◌+◌, ◌-◌, ◌<◌, ◌≤◌, Bool, true, false, ◌&&◌, leb, ◌⊎◌, List, [], ◌∷◌, ◌++◌, map, length, take, set, replicate, Some, None, sym, refl, ap, ◌∙◌, subst, inl, inr, ⊎_elim, append_assoc, append-nil, add-one, arith}
+use Rattle.std.proofs.Common.{◌≡◌, ℕ, zero, suc, ◌+◌, ◌-◌, ◌<◌, ◌≤◌, Bool, true, false, leb, ◌⊎◌, List, [], ◌∷◌, ◌++◌, length, take, set, replicate, Some, sym, refl, ap, ◌∙◌, ⊎_elim, append_assoc, append-nil, arith}
 use native.Mathlib.Nat.{sub_self}
 use Rattle.std.proofs.lemmas.List.{length_push, length-map, length-take, take_more_set, replicate_more, map_push}
-use Rattle.std.proofs.lemmas.Bool.{and_from, and_left, and_right, and_cases, and_parts, le-leb, lt-leb, leb-true, leb-false, cases_Bool, both_ways, false≢true}
-use Rattle.power.specs.Board.{Need}
+use Rattle.std.proofs.lemmas.Bool.{and_from, and_left, and_right, and_cases, and_parts, le-leb, lt-leb, leb-false, cases_Bool, both_ways}
 use Rattle.sim.specs.Plans.{need_of, needs_of}
 use Rattle.sim.specs.declared.plan.PlanNeed.{PlanNeed}
 use Rattle.sim.specs.declared.plan.PlanPart.{PlanPart}

@@ -1,4 +1,6 @@
 // The text of plans and scripts: what a line says, and what is printed. It uses no heap.
+#![tactic(auto)]
+
 pub mod buffer;
 mod draws;
 pub mod event;

@@ -1,4 +1,6 @@
 // Reads lines from the standard input, and prints what each of them says.
+#![tactic(auto)]
+
 use script::buffer::LineBuffer;
 use script::event::{Event, Say};
 use script::line::{Line, NoLine};

@@ -1,9 +1,8 @@
 -- Wishes as they grow older, one after another.
-use Rattle.std.proofs.Common.{◌≡◌, ℕ, zero, suc, ◌+◌, ◌<◌, ◌≤◌, Bool, true, false, cond, ◌&&◌, ◌||◌, T, eqb, ltb, leb, List, [], length, get_or, set, sym, refl, ap, ◌∙◌, subst, ⊎_elim, add-one, arith, rules, le-ltb, lt-ltb, eq-eqb, ne_eqb}
+use Rattle.std.proofs.Common.{◌≡◌, ℕ, zero, suc, ◌+◌, ◌<◌, ◌≤◌, Bool, true, false, cond, ◌||◌, T, ltb, List, length, get_or, set, sym, refl, ap, ◌∙◌, ⊎_elim, add-one, arith, le-ltb, lt-ltb, eq-eqb, ne_eqb}
 use Rattle.std.proofs.lemmas.Bool.{cases_eq, cases_lt, and_parts}
 use Rattle.std.proofs.lemmas.List.{get_or_past}
-use Rattle.std.proofs.lemmas.Bool.Decides.{nat_tests}
-use Rattle.power.specs.Board.{Wish, older, young, some', every, put}
+use Rattle.power.specs.Board.{Wish, older, some', every, put}
 use Rattle.sim.specs.declared.state.Wanted.{Wanted}
 use Rattle.sim.specs.declared.state.Wanted.TheVariants.{Nothing}
 use Rattle.sim.specs.Boards.{wish_of}

@@ -1,5 +1,5 @@
 -- A board in memory with nothing done to it. Assumes nothing.
-use Rattle.std.proofs.Common.{◌≡◌, ℕ, zero, suc, ◌≤◌, Bool, true, T, List, get_or, replicate, sym, refl, ap, ◌∙◌, subst, arith}
+use Rattle.std.proofs.Common.{◌≡◌, ℕ, zero, suc, T, List, get_or, replicate, sym, refl, ap, ◌∙◌, subst, arith}
 use mathlib.Core.Path.{fun_ext}
 use Rattle.power.specs.Board.{Board, Part, Off, Wish, None', AtStart, good_plan}
 use Rattle.sim.specs.declared.plan.Plan.{Plan}

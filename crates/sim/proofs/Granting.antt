@@ -1,7 +1,7 @@
 -- What is granted, user by user. Assumes nothing.
-use Rattle.std.proofs.Common.{◌≡◌, ℕ, ◌+◌, ◌<◌, cond, eqb, sym, refl, ap, ◌∙◌, add-one, arith}
+use Rattle.std.proofs.Common.{◌≡◌, ℕ, ◌+◌, sym, refl, add-one, arith}
 use Rattle.std.proofs.lemmas.Bool.Decides.{nat_tests}
-use Rattle.power.specs.Board.{Wish, None', Asked, Granted, want_of, most, larger, and_also}
+use Rattle.power.specs.Board.{None', Asked, Granted, want_of, most, larger, and_also}
 
 pub most_none : (f : ℕ → ℕ) → 0 ≡ most 0 f
 unfolding most

@@ -1,7 +1,7 @@
 -- What paces mean: the nth asking is the good one. Assumes nothing.
-use Rattle.std.proofs.Common.{◌≡◌, ℕ, zero, suc, ◌+◌, ◌-◌, false, leb, sym, refl, ◌∙◌, inl, inr, arith, leb-false, leb-true}
+use Rattle.std.proofs.Common.{◌≡◌, ℕ, zero, suc, ◌+◌, ◌-◌, false, leb, refl, ◌∙◌, arith}
 use Rattle.std.proofs.lemmas.Bool.Decides.{nat_tests}
-use Rattle.sim.specs.Paces.{ready, waited, asked, GoodAtTheNth}
+use Rattle.sim.specs.Paces.{ready, asked, GoodAtTheNth}
 use Rattle.sim.specs.declared.state.Pace.TheVariants.{At, Never}
 
 ready_at : (k n : ℕ) → ready (asked k (At n)) ≡ leb n (k + 1)

@@ -1,6 +1,6 @@
 -- The board after a part was raised, or was asked whether it's good. Assumes nothing.
 use Rattle.std.proofs.Common.{◌≡◌, ℕ, ◌+◌, ◌<◌, true, false, cond, T, ltb, length, get_or, set, sym, ap, ◌∙◌, subst}
-use Rattle.power.specs.Board.{Board, Part, Rising, On, with_parts, put, raised, is_rising, Tries, good, not_yet}
+use Rattle.power.specs.Board.{Part, Rising, On, with_parts, put, raised, is_rising, Tries, good, not_yet}
 use Rattle.power.specs.declared.types.Level.{Level}
 use Rattle.sim.specs.declared.state.PartState.TheVariants as state
 use Rattle.sim.specs.declared.state.Sim.{Sim}

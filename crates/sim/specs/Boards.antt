@@ -1,5 +1,5 @@
 -- The board that a board in memory is.
-use Rattle.std.specs.Prelude.{ℕ, slice_index, slice_index_or}
+use Rattle.std.specs.Prelude.{slice_index, slice_index_or}
 use Rattle.power.specs.Board.{Board, Part, Off, Rising, On, Wish, None', Asked, Granted}
 use Rattle.sim.specs.declared.state.PartState.{PartState}
 use Rattle.sim.specs.declared.state.PartState.TheVariants as state

@@ -1,5 +1,5 @@
 -- What comes of making a board in memory from a plan.
-use Rattle.std.specs.Prelude.{◌≡◌, ℕ, ◌<◌, false, replicate, Ok, Err, Result}
+use Rattle.std.specs.Prelude.{◌≡◌, false, replicate, Ok, Err, Result}
 use Rattle.power.specs.Board.{AtStart, good_plan}
 use Rattle.sim.specs.declared.plan.Plan.{Plan}
 use Rattle.sim.specs.declared.plan.PlanFault.{PlanFault}

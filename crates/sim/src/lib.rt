@@ -1,4 +1,6 @@
 // A board in memory, with parts that rise slowly or never: it is `Parts`, and the board's side of a `World`.
+#![tactic(auto)]
+
 pub mod board;
 pub mod build;
 mod check;

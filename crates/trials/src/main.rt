@@ -1,4 +1,6 @@
 // Compares the least that the code finds with the lowest levels found by trying, on random plans.
+#![tactic(auto)]
+
 mod random;
 mod search;
 

@@ -1,4 +1,4 @@
-use Rattle.std.proofs.Common.{refl, arith}
+use Rattle.std.proofs.Common.{refl}
 use Rattle.power.proofs.Pursuing.{mirrors_only}
 use Rattle.power.proofs.KeptTicks.{worked_settled, worked_idle}
 use Rattle.power.proofs.Keeper.be_idle.Goals as goal

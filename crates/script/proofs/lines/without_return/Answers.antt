@@ -1,5 +1,5 @@
 -- Only the last byte matters.
-use Rattle.std.proofs.Common.{◌≡◌, ◌+◌, ◌-◌, [], length, sym, refl, ap, ◌∙◌, arith}
+use Rattle.std.proofs.Common.{◌-◌, length, sym, ap, ◌∙◌, arith}
 use native.Mathlib.Nat.{sub-zero}
 use Rattle.std.proofs.lemmas.List.{nil_from_length}
 use Rattle.script.specs.Sources.{without_return}

@@ -1,7 +1,6 @@
 -- A need is read word by word.
-use Rattle.std.proofs.Common.{◌≡◌, [], ◌∷◌, sym, refl, ap, ◌∙◌, arith}
+use Rattle.std.proofs.Common.{[], ◌∷◌, ◌∙◌, arith}
 use Rattle.std.proofs.lemmas.Result.{err_from_is_err_and}
-use Rattle.script.specs.Lines.{needs, levels}
 use Rattle.script.specs.Text.{words_of}
 use Rattle.script.proofs.Listed.{needs_levels, most_is, most_lacks}
 use Rattle.script.proofs.needs.need.Goals as goal

@@ -1,7 +1,6 @@
 -- A blank is passed over.
-use Rattle.std.proofs.Common.{sym, ap, ◌∙◌, arith}
+use Rattle.std.proofs.Common.{sym, ◌∙◌, arith}
 use Rattle.std.proofs.lemmas.List.{take_rest, length-drop}
-use Rattle.script.specs.Text.{words_of}
 use Rattle.script.proofs.Spaced.{words_next, at_front}
 use Rattle.script.proofs.words.past_blanks.Goals as goal
 use Rattle.script.proofs.words.past_blanks.Goals.{then-loop-n-test+else-is_blank, else-loop-n-test}

@@ -1,4 +1,4 @@
-use Rattle.std.proofs.Common.{◌≡◌, ℕ, ltb, List, [], ◌∷◌, ◌++◌, get_or, take, decimal, MatchBool, ap, ◌∙◌, subst, arith}
+use Rattle.std.proofs.Common.{◌≡◌, ℕ, ltb, List, [], ◌∷◌, ◌++◌, get_or, decimal, MatchBool, ap, ◌∙◌, subst, arith}
 use Rattle.script.specs.Rows.{row_text}
 use Rattle.std.proofs.lemmas.List.{take_all}
 use Rattle.script.specs.Events.{spaced}

@@ -1,7 +1,6 @@
-use Rattle.std.proofs.Common.{◌≡◌, List, ◌++◌, codes, decimal, sym, ap, ◌∙◌, append_assoc}
+use Rattle.std.proofs.Common.{◌++◌, codes, decimal, sym, ap, ◌∙◌, append_assoc}
 use Rattle.script.specs.Rows.{row_text}
 use Rattle.script.specs.Events.{printed}
-use Rattle.script.specs.declared.event.Event.{Event}
 use Rattle.script.proofs.Printed.{as_well, one_more}
 use Rattle.script.proofs.write.write_event.Goals as goal
 

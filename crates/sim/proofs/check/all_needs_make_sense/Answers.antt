@@ -1,5 +1,5 @@
 -- There are never more than four needs.
-use Rattle.std.proofs.Common.{◌≡◌, ◌≤◌, true, leb, length, sym, ◌∙◌, arith, le-leb}
+use Rattle.std.proofs.Common.{◌≡◌, true, leb, length, sym, ◌∙◌, arith, le-leb}
 use Rattle.power.specs.Board.{all, apart, good_need}
 use Rattle.sim.specs.Plans.{needs_of}
 use Rattle.sim.proofs.Listed.{length_needs}

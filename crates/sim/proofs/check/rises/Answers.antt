@@ -1,5 +1,5 @@
 -- Each turn tests one more pair.
-use Rattle.std.proofs.Common.{◌≡◌, true, false, length, sym, ap, ◌∙◌, arith}
+use Rattle.std.proofs.Common.{◌≡◌, false, sym, ap, ◌∙◌, arith}
 use Rattle.std.proofs.lemmas.Bool.Decides.{nat_tests}
 use Rattle.power.specs.Board.{every}
 use Rattle.sim.proofs.Sensible.{steps, every_none, every_more, every_false, rising_by}

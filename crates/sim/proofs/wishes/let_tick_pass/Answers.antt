@@ -1,5 +1,5 @@
 -- Those below u are older, and the flag says whether one of them was asked.
-use Rattle.std.proofs.Common.{◌≡◌, ℕ, ◌<◌, Bool, true, false, ◌||◌, length, get_or, sym, refl, ap, ◌∙◌, arith, length-set, rules}
+use Rattle.std.proofs.Common.{◌≡◌, ℕ, ◌<◌, Bool, length, get_or, sym, refl, ap, ◌∙◌, arith, length-set}
 use Rattle.std.proofs.lemmas.List.{get_or_default}
 use Rattle.power.specs.Board.{Wish, some', is_asked, older, young}
 use Rattle.sim.specs.declared.state.Wanted.TheVariants.{Nothing}

@@ -1,5 +1,5 @@
 -- It's good, and on at 1; or it isn't, and was tried once more.
-use Rattle.std.proofs.Common.{set, sym, refl, ap, ◌∙◌, arith}
+use Rattle.std.proofs.Common.{set, refl, ap, arith}
 use Rattle.sim.proofs.Stepped.{now_good, not_yet_lem}
 use Rattle.sim.proofs.board.SimParts.good.Goals as goal
 

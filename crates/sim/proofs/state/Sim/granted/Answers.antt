@@ -1,5 +1,5 @@
 -- Each turn adds one user's grant.
-use Rattle.std.proofs.Common.{◌≡◌, ℕ, ◌<◌, List, length, get_or, sym, ap, ◌∙◌, arith}
+use Rattle.std.proofs.Common.{ℕ, ◌<◌, List, length, get_or, ap, ◌∙◌, arith}
 use Rattle.std.proofs.lemmas.List.{get_or_default}
 use Rattle.power.specs.Board.{want_of, larger}
 use Rattle.power.specs.Tables.{at}

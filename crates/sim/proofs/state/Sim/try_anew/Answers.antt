@@ -1,7 +1,6 @@
 -- All are tried anew.
 use Rattle.std.proofs.Common.{ℕ, refl, ap}
 use mathlib.Core.Path.{fun_ext}
-use Rattle.power.specs.Board.{Board}
 use Rattle.sim.specs.Boards.{board_of}
 use Rattle.sim.proofs.Fresh.{all_same}
 use Rattle.sim.proofs.state.Sim.try_anew.Goals as goal

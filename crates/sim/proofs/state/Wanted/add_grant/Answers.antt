@@ -1,5 +1,5 @@
 -- Only a grant adds something.
-use Rattle.std.proofs.Common.{◌≡◌, ℕ, sym, ap, ◌∙◌}
+use Rattle.std.proofs.Common.{ℕ, sym, ap, ◌∙◌}
 use Rattle.power.specs.Board.{want_of, larger}
 use Rattle.power.specs.Tables.{at}
 use Rattle.sim.specs.Boards.{wish_of}

@@ -1,5 +1,5 @@
 -- What's turned away changes nothing; what's taken is within its bounds.
-use Rattle.std.proofs.Common.{◌≡◌, sym, refl, ap, ◌∙◌, arith}
+use Rattle.std.proofs.Common.{sym, refl, ap, ◌∙◌, arith}
 use Rattle.power.specs.Board.{called}
 use Rattle.power.specs.declared.Call.{Call}
 use Rattle.power.specs.declared.Call.TheVariants.{Want, Give}

@@ -1,5 +1,4 @@
 -- Nobody has waited too long.
-use Rattle.std.proofs.Common.{Bool, true, ◌&&◌}
 use Rattle.std.proofs.lemmas.Bool.{and_parts}
 use Rattle.power.specs.Board.{young}
 use Rattle.sim.specs.Boards.{board_of}
