@@ -1,6 +1,6 @@
 -- The forms of a line as one writes it, and that each is read as what it means.
 use Rattle.std.specs.Prelude.{◌≡◌, ℕ, ◌<◌, false, List, [], ◌∷◌, ◌++◌, length, Some, codes}
-use Rattle.std.specs.List.{AllByRecursion as All}
+use Rattle.std.specs.List.{AllByRecursion}
 use Rattle.script.specs.Lines.{Written, line_of, part_with, run, new, least, gives, drawn, want, give, tick, bad, slow}
 use Rattle.script.specs.Text.{is_blank, number_of, words_of}
 
@@ -12,7 +12,7 @@ unwords (w ∷ v ∷ ws) = w ++ 32 ∷ unwords (v ∷ ws)
 
 -- a word: some bytes, and no blank
 abbrev pub IsWord : List ℕ → Type 0
-IsWord w = (0 < length w) × All (λ b. is_blank b ≡ false) w
+IsWord w = (0 < length w) × AllByRecursion (λ b. is_blank b ≡ false) w
 
 -- the word is a spelling of the number
 abbrev pub Spells : List ℕ → ℕ → Type 0
@@ -58,7 +58,7 @@ part_words [] ss = needs_part ss
 part_words (d ∷ ds) ss = codes "draws" ∷ d ∷ (ds ++ needs_part ss)
 
 pub record ReadsBack : Type 0 where
-  pub words : (ws : List (List ℕ)) → All IsWord ws → words_of (unwords ws) ≡ ws
+  pub words : (ws : List (List ℕ)) → AllByRecursion IsWord ws → words_of (unwords ws) ≡ ws
   pub part : (w : List ℕ) (x : ℕ) (ds : List (List ℕ)) (ms : List ℕ) (ss : List NeedWords) (ns : List Written) → Spells w x → Pairwise Spells ds ms → Pairwise SpellsNeed ss ns →
       line_of (codes "part" ∷ w ∷ part_words ds ss) ≡ Some (part_with x ms ns)
   pub gives : (w : List ℕ) (n : ℕ) → Spells w n → line_of (codes "gives" ∷ w ∷ []) ≡ Some (gives n)
