@@ -8,12 +8,12 @@ fn main() {
         return;
     }
     let here = env::var("CARGO_MANIFEST_DIR").expect("cargo sets the manifest's directory");
-    let folder = Path::new(&here).join("../target/staticlib");
+    let folder = Path::new(&here).join("../crates/export/out");
     let library = folder.join("libexport.a");
     println!("cargo::rerun-if-changed={}", library.display());
     if !library.is_file() {
         println!(
-            "cargo::error={} is missing: build it with `rt staticlib export` at the repository's root, \
+            "cargo::error={} is missing: build it with `rt lib` in crates/export, \
              or do without it by `--features plain`",
             library.display()
         );
