@@ -24,6 +24,8 @@ pub enum Wanted {
     Nothing,
     Asked(PartId, Level),
     Granted(PartId, Level),
+    // what was granted is gone, and the user isn't told yet
+    Lost,
 }
 
 // The state of each part: the board's own can't be read.

@@ -11,6 +11,8 @@ pub enum Event {
     Good(u32),
     Level(u32, u32),
     Lower(u32),
+    // a part went off by itself
+    Fell(u32),
     // what all parts draw
     Drawn(u64),
     NoPlan,
@@ -23,5 +25,5 @@ pub trait Say {
     fn say(&mut self, event: Event);
 
     // The levels with single spaces between them.
-    fn say_levels(&mut self, levels: &[u32]);
+    fn say_levels(&mut self, levels: &[u8]);
 }
