@@ -1,6 +1,7 @@
 pub mod Ages
 pub mod Aim
 pub mod Board
+pub mod Choices
 pub mod Cost
 pub mod Examples
 pub mod Falls

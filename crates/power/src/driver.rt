@@ -6,6 +6,7 @@ ghost use Rattle.power.specs.Mirrors.{Knows};
 use crate::Answer;
 use crate::refusal::NOT_GOOD;
 use crate::state::{Driver, Mirror};
+use crate::types::Sides;
 
 // How often the board may be asked in a tick.
 pub(crate) const ASKINGS: u32 = 1024;
@@ -16,6 +17,7 @@ impl Driver {
     {
         Driver {
             mirror: Mirror::new(),
+            sides: Sides::new(),
             left: 0,
         }
     }
