@@ -1,11 +1,10 @@
 -- What is still to be asked: its bound, and that each asking on the way takes one off. Assumes nothing.
 use Rattle.std.proofs.Common.{◌≡◌, ℕ, ◌+◌, ◌-◌, ◌<◌, ◌≤◌, Bool, cond, T, eqb, ltb, ◌≢◌, sym, refl, ap, ◌∙◌, subst, ap₂, arith}
 use Rattle.std.proofs.lemmas.Bool.{cond_both, cond-true, cond-false, ne_eqb, lt-ltb}
-use Rattle.std.proofs.lemmas.Bool.Decides.{nat_tests}
 use Rattle.power.specs.Board.{Board, total, Part, Off, Rising, On, is_off, is_on, is_rising, level_of, put, with_parts, Tries, good, not_yet, raised, lowered, levelled}
-use Rattle.power.specs.Cost.{cost, costs, anew_costs, height, CostIsBounded, EachAskingPays}
+use Rattle.power.specs.Cost.{cost, costs, height, CostIsBounded, EachAskingPays}
 use Rattle.power.proofs.Puts.{put_here, put_other}
-use Rattle.power.proofs.Totals.{total_le, total_more, total_at}
+use Rattle.power.proofs.Totals.{total_le, total_at}
 use Rattle.power.proofs.SoundLevels.{level_top}
 
 -- ONE PART
@@ -43,24 +42,10 @@ cost_some Off n h = h
 cost_some Rising n h = omega arith
 cost_some (On v) n h = omega arith
 
--- down to nothing and up again
-anew_le : (l : ℕ) → l ≤ 15 → cond (eqb l 0) 0 (64 + l) ≤ 79
-anew_le l h = cond_both (eqb l 0) 0 (64 + l) (λ x. x ≤ 79) (λ e. omega arith) (λ e. omega arith)
-
-cost_anew : (p : Part) (n l : ℕ) → cost p n l ≤ level_of p + cond (eqb l 0) 0 (64 + l)
-unfolding cost level_of
-cost_anew Off n l = omega arith
-cost_anew Rising n l = grind (arith, nat_tests)
-cost_anew (On v) n l = grind (arith, nat_tests)
-
 -- ALL PARTS
 pub cost_is_bounded : CostIsBounded
 cost_is_bounded b s few = (
-  λ l h. (
-    omega (arith, total_le b.parts 79 (λ x. cost (b.part x) (b.tried x) (l x)) (λ x hx. cost_le (b.part x) (b.tried x) (l x) (h x hx) (λ v e. (s.range x v hx e).1))),
-    omega (arith, total_le b.parts 94 (λ x. level_of (b.part x) + cond (eqb (l x) 0) 0 (64 + l x)) (λ x hx. omega (arith, level_top b s x hx, anew_le (l x) (h x hx)))),
-    total_more b.parts (λ x. cost (b.part x) (b.tried x) (l x)) (λ x. level_of (b.part x) + cond (eqb (l x) 0) 0 (64 + l x)) (λ x hx. cost_anew (b.part x) (b.tried x) (l x)),
-  ),
+  λ l h. omega (arith, total_le b.parts 79 (λ x. cost (b.part x) (b.tried x) (l x)) (λ x hx. cost_le (b.part x) (b.tried x) (l x) (h x hx) (λ v e. (s.range x v hx e).1))),
   omega (arith, total_le b.parts 15 (λ x. level_of (b.part x)) (λ x hx. level_top b s x hx)),
 )
 
@@ -82,8 +67,8 @@ module _ (b : Board) (l : ℕ → ℕ) (x : ℕ) (hx : x < b.parts) where
       let q : cost (put x p b.part x) (t x) (l x) ≡ cost p n (l x) = ap₂ (λ (p : Part) (n : ℕ). cost p n (l x)) (put_here x p b.part) e in
       pays (put x p b.part) t (omega arith) (put_other x p b.part) d
 
-  cost_raised : (c : Bool) → T (is_off (b.part x)) → 1 ≤ l x → costs (raised x c b) l < costs b l
-  cost_raised c off h =
+  cost_raised : T (is_off (b.part x)) → 1 ≤ l x → costs (raised x b) l < costs b l
+  cost_raised off h =
       pays_put Rising (put x 0 b.tried) 0 (put_here x 0 b.tried)
       (omega (arith, cost_off (b.part x) (b.tried x) (l x) off h, cost_rising Rising 0 (l x) (unfold is_rising in tt) h))
       (put_other x 0 b.tried)

@@ -5,8 +5,9 @@ use Rattle.std.proofs.lemmas.Bool.{eq-eqb}
 use Rattle.power.specs.declared.types.Levels.{Levels}
 use Rattle.power.specs.declared.types.Aims.{Aims}
 use Rattle.power.specs.declared.types.CantBe.{CantBe}
-use Rattle.power.specs.Board.{Board, on_of, most_of, and_also}
-use Rattle.power.specs.Least.{lv, allowed_at, can_fit}
+use Rattle.power.specs.Board.{Board, on_of, most_of, and_also, can_be}
+use Rattle.power.specs.Promise.{allowed'}
+use Rattle.power.specs.Least.{lv}
 use Rattle.power.specs.Found.{needs_fit, part_fits, parts_fit, Finds, FindsAims, Sweeps}
 use Rattle.power.proofs.Tests.{and_r, and_i, every_at, every_of, is_true, is_false}
 use Rattle.power.proofs.Plain.{needs_fit_at, needs_fit_of}
@@ -31,13 +32,13 @@ one_unfit b f x i n =
     sym (is_false (parts_fit b f) (λ t. let no : T false = subst T n (and_r (leb (f x) 15) _ (every_at b.parts _ t x i)) in no))
 
 -- OF THE LEAST: it's allowed exactly where what's wanted can be
-allowed_least : (b : Board) (want f : ℕ → ℕ) → ((x : ℕ) → f x ≡ lv b want x) → allowed_at b f ≡ can_fit b want
-allowed_least b want f e = ap (allowed_at b) (fun_ext e)
+allowed_least : (b : Board) (want f : ℕ → ℕ) → ((x : ℕ) → f x ≡ lv b want x) → allowed' b f ≡ can_be b want
+allowed_least b want f e = ap (allowed' b) (fun_ext e)
 
-pub can : (b : Board) (want f : ℕ → ℕ) (r : Bool) → ((x : ℕ) → f x ≡ lv b want x) → r ≡ allowed_at b f → r ≡ true → T (can_fit b want)
+pub can : (b : Board) (want f : ℕ → ℕ) (r : Bool) → ((x : ℕ) → f x ≡ lv b want x) → r ≡ allowed' b f → r ≡ true → T (can_be b want)
 can b want f r e d t = subst T (sym t ∙ d ∙ allowed_least b want f e) tt
 
-pub cannot : (b : Board) (want f : ℕ → ℕ) (r : Bool) → ((x : ℕ) → f x ≡ lv b want x) → r ≡ allowed_at b f → r ≡ false → T (not (can_fit b want))
+pub cannot : (b : Board) (want f : ℕ → ℕ) (r : Bool) → ((x : ℕ) → f x ≡ lv b want x) → r ≡ allowed' b f → r ≡ false → T (not (can_be b want))
 cannot b want f r e d t = subst (λ (q : Bool). T (not q)) (sym t ∙ d ∙ allowed_least b want f e) tt
 
 -- only what's wanted matters, not how it's said

@@ -1,11 +1,11 @@
 -- A user who gives back has nothing, and who has nothing changes nothing by it. Assumes nothing.
-use Rattle.std.proofs.Common.{◌≡◌, ℕ, ◌<◌, ◌≤◌, Bool, true, false, cond, T, ◌≢◌, Err, sym, refl, ap, ◌∙◌, subst, inl, inr, arith}
+use Rattle.std.proofs.Common.{◌≡◌, ℕ, ◌<◌, Bool, true, false, cond, T, ◌≢◌, Err, sym, refl, ap, ◌∙◌, subst, inl, inr, arith}
 use Rattle.std.proofs.lemmas.Bool.{cases_lt}
 use Rattle.power.specs.declared.Call.TheVariants.{Want, Give}
 use Rattle.power.specs.declared.refusal.Refusal.{Refusal}
 use Rattle.power.specs.declared.refusal.Refusal.TheVariants.{NoSuch, Already, Nothing}
 use Rattle.power.specs.declared.Keeper.{Keeper}
-use Rattle.power.specs.Board.{Board, Wish, None', is_none, put, with_wish, why, called}
+use Rattle.power.specs.Board.{Board, Wish, None', is_none, why, called}
 use Rattle.power.specs.Refused.{number_of}
 use Rattle.power.specs.Kept.{Kept}
 use Rattle.power.specs.Guards.{AfterDrop}

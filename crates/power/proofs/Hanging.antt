@@ -1,10 +1,10 @@
 -- What hangs on a part that fell: it is that part and what needs it, and nobody else loses anything. Assumes nothing.
 use Rattle.std.proofs.Common.{◌≡◌, ℕ, zero, suc, ◌+◌, ◌<◌, ◌≤◌, Bool, true, false, cond, not, ◌&&◌, ◌||◌, T, eqb, leb, ◌≢◌, List, [], ◌∷◌, length, get_or, set, replicate, sym, refl, ap, ◌∙◌, subst, inl, inr, le_of_suc-le-suc, not-suc-le-zero, arith, get_or-set_other, get_or-set_same}
 use Rattle.std.proofs.lemmas.Bool.{cases_lt, cases_eq, eq-eqb, ne_eqb}
-use Rattle.power.specs.Board.{Need, Board, Wish, None', Asked, Granted, Lost, on_of, granted_over, lost_of, some_on, hangs_on, hangs, needs_by, needs_now, fallen, good_plan}
+use Rattle.power.specs.Board.{Need, Board, Wish, None', Asked, Granted, Lost, on_of, granted_over, lost_of, some_on, hangs_on, hangs, good_plan}
 use Rattle.power.specs.Promise.{HangsIs, HangsOnly, OthersKeep, HitMayGo}
 use Rattle.power.proofs.Tests.{or_e, or_l, or_r, is_true, every_of}
-use Rattle.power.proofs.Plans.{plan_by}
+use Rattle.power.proofs.Plans.{plan_at}
 
 -- SOME NEED IS HIT, by index
 pub some_on_at : (h : ℕ → Bool) (ns : List Need) (k : ℕ) → k < length ns → T (h (on_of k ns)) → T (some_on h ns)
@@ -75,36 +75,32 @@ unfolding hangs_on
 hangs_turn needs f x =
     ap (λ (t : Bool). t || (eqb x x && some_on (hangs_on x needs f) (needs x))) (hangs_before needs f x x (omega arith)) ∙ ap (λ (t : Bool). eqb x f || (t && some_on (hangs_on x needs f) (needs x))) (eq-eqb x x refl)
 
--- for needs that go to smaller numbers
-module _ (n : ℕ) (needs : ℕ → List Need) (f : ℕ) (below : (x k : ℕ) → x < n → k < length (needs x) → on_of k (needs x) < x) where
-  pub hang_is : (x : ℕ) → x < n → hangs_on n needs f x ≡ (eqb x f || some_on (hangs_on n needs f) (needs x))
-  hang_is x h =
-      let same : some_on (hangs_on x needs f) (needs x) ≡ some_on (hangs_on n needs f) (needs x) =
-      some_on_same (hangs_on x needs f) (hangs_on n needs f) (needs x)
-      (λ k i.
-      let o = on_of k (needs x) in
-      let l : o < x = below x k h i in
-      hangs_after needs f x o l ∙ sym (hangs_after needs f n o (omega arith))) in
-      hangs_after needs f n x h ∙ hangs_turn needs f x ∙ ap (λ (t : Bool). eqb x f || t) same
-
-  -- the flags of the first d parts are determined
-  only_first : (h : ℕ → Bool) → ((x : ℕ) → x < n → h x ≡ (eqb x f || some_on h (needs x))) → (d x : ℕ) → x < d → x < n → h x ≡ hangs_on n needs f x
-  only_first h e zero x i l = absurd (not-suc-le-zero i)
-  only_first h e (suc d) x i l =
-      let same : some_on h (needs x) ≡ some_on (hangs_on n needs f) (needs x) =
-      some_on_same h (hangs_on n needs f) (needs x)
-      (λ k j. let o : on_of k (needs x) < x = below x k l j in only_first h e d (on_of k (needs x)) (omega arith) (omega arith)) in
-      e x l ∙ ap (λ (t : Bool). eqb x f || t) same ∙ sym (hang_is x l)
+pub hangs_is : HangsIs
+hangs_is b f x g h =
+    let same : some_on (hangs_on x b.needs f) (b.needs x) ≡ some_on (hangs b f) (b.needs x) =
+    some_on_same (hangs_on x b.needs f) (hangs b f) (b.needs x)
+    (λ k i.
+    let o = on_of k (b.needs x) in
+    let l : o < x = (plan_at b g x h k i).below in
+    hangs_after b.needs f x o l ∙ sym (hangs_after b.needs f b.parts o (omega arith))) in
+    hangs_after b.needs f b.parts x h ∙ hangs_turn b.needs f x ∙ ap (λ (t : Bool). eqb x f || t) same
 
 -- past the parts nothing hangs on a part that there is
-pub hang_past : (n : ℕ) (needs : ℕ → List Need) (f x : ℕ) → f < n → n ≤ x → hangs_on n needs f x ≡ false
-hang_past n needs f x l h = hangs_before needs f n x h ∙ ne_eqb x f (λ e. omega arith)
+pub hangs_past : (b : Board) (f x : ℕ) → f < b.parts → b.parts ≤ x → hangs b f x ≡ false
+hangs_past b f x l h = hangs_before b.needs f b.parts x h ∙ ne_eqb x f (λ e. omega arith)
 
-pub hangs_is : HangsIs
-hangs_is b f x g h = hang_is b.parts (needs_now b) f (λ y k l i. (plan_by b b.choice g y l k i).below) x h
+-- the flags of the first d parts are determined
+only_first :
+    (b : Board) (f : ℕ) (h : ℕ → Bool) → T (good_plan b) → ((x : ℕ) → x < b.parts → h x ≡ (eqb x f || some_on h (b.needs x))) → (d x : ℕ) → x < d → x < b.parts → h x ≡ hangs b f x
+only_first b f h g e zero x i l = absurd (not-suc-le-zero i)
+only_first b f h g e (suc d) x i l =
+    let same : some_on h (b.needs x) ≡ some_on (hangs b f) (b.needs x) =
+    some_on_same h (hangs b f) (b.needs x)
+    (λ k j. let o : on_of k (b.needs x) < x = (plan_at b g x l k j).below in only_first b f h g e d (on_of k (b.needs x)) (omega arith) (omega arith)) in
+    e x l ∙ ap (λ (t : Bool). eqb x f || t) same ∙ sym (hangs_is b f x g l)
 
 pub hangs_only : HangsOnly
-hangs_only b f h g e x l = only_first b.parts (needs_now b) f (λ y k l i. (plan_by b b.choice g y l k i).below) h e (suc x) x (omega arith) l
+hangs_only b f h g e x l = only_first b f h g e (suc x) x (omega arith) l
 
 -- WHO LOSES WHAT
 lost_kept : (h : ℕ → Bool) (w : Wish) (y l : ℕ) → w ≡ Granted y l → h y ≡ false → lost_of h w ≡ Granted y l
@@ -145,12 +141,12 @@ pub hit_may_go : HitMayGo
 hit_may_go b f x t = every_of 32 _ (λ u i. has_none (λ y. hangs b f y) x t (b.wish u))
 
 -- THE CODE'S FLAGS: those of the first n parts are made, the others aren't hit yet
-pub record HitsTo (b : Board) (c : ℕ → Bool) (f n : ℕ) (h : ℕ → Bool) : Type 0 where
-  pub made : (x : ℕ) → x < n → h x ≡ hangs_on b.parts (needs_by b c) f x
+pub record HitsTo (b : Board) (f n : ℕ) (h : ℕ → Bool) : Type 0 where
+  pub made : (x : ℕ) → x < n → h x ≡ hangs b f x
   pub none : (x : ℕ) → n ≤ x → h x ≡ false
 
-pub hits_none : (b : Board) (c : ℕ → Bool) (f : ℕ) (h : ℕ → Bool) → ((x : ℕ) → h x ≡ false) → HitsTo b c f 0 h
-hits_none b c f h e = record { made = λ x i. absurd (not-suc-le-zero i); none = λ x i. e x }
+pub hits_none : (b : Board) (f : ℕ) (h : ℕ → Bool) → ((x : ℕ) → h x ≡ false) → HitsTo b f 0 h
+hits_none b f h e = record { made = λ x i. absurd (not-suc-le-zero i); none = λ x i. e x }
 
 -- at first no part is hit
 pub none_at_first : (x n : ℕ) → get_or (replicate n false) x false ≡ false
@@ -160,24 +156,24 @@ none_at_first (suc x) (suc n) = none_at_first x n
 
 -- when a part's turn comes, the flags of what it needs are made
 pub hits_hit :
-    (b : Board) (c : ℕ → Bool) (f n : ℕ) (h : ℕ → Bool) → T (good_plan b) → n < b.parts → HitsTo b c f n h → (v : Bool) → v ≡ (eqb n f || some_on h (needs_by b c n)) → v ≡ hangs_on b.parts (needs_by b c) f n
-hits_hit b c f n h g l s v e =
-    let same = some_on_same h (hangs_on b.parts (needs_by b c) f) (needs_by b c n) (λ k i. s.made (on_of k (needs_by b c n)) (plan_by b c g n l k i).below) in
-    e ∙ ap (λ (t : Bool). eqb n f || t) same ∙ sym (hang_is b.parts (needs_by b c) f (λ y k l i. (plan_by b c g y l k i).below) n l)
+    (b : Board) (f n : ℕ) (h : ℕ → Bool) → T (good_plan b) → n < b.parts → HitsTo b f n h → (v : Bool) → v ≡ (eqb n f || some_on h (b.needs n)) → v ≡ hangs b f n
+hits_hit b f n h g l s v e =
+    let same = some_on_same h (hangs b f) (b.needs n) (λ k i. s.made (on_of k (b.needs n)) (plan_at b g n l k i).below) in
+    e ∙ ap (λ (t : Bool). eqb n f || t) same ∙ sym (hangs_is b f n g l)
 
 -- one part more
 pub hits_more :
-    (b : Board) (c : ℕ → Bool) (f n : ℕ) (xs ys : List Bool) (v : Bool) → n < length xs → ys ≡ set xs n v → v ≡ hangs_on b.parts (needs_by b c) f n → HitsTo b c f n (λ x. get_or xs x false) → HitsTo b c f (n + 1) (λ x. get_or ys x false)
-hits_more b c f n xs ys v i d e s =
-    subst (λ (zs : List Bool). HitsTo b c f (n + 1) (λ x. get_or zs x false)) (sym d)
+    (b : Board) (f n : ℕ) (xs ys : List Bool) (v : Bool) → n < length xs → ys ≡ set xs n v → v ≡ hangs b f n → HitsTo b f n (λ x. get_or xs x false) → HitsTo b f (n + 1) (λ x. get_or ys x false)
+hits_more b f n xs ys v i d e s =
+    subst (λ (zs : List Bool). HitsTo b f (n + 1) (λ x. get_or zs x false)) (sym d)
     (record {
       made = λ x l. elim (cases_eq x n) [
-        | inl o ↦ subst (λ (j : ℕ). get_or (set xs n v) j false ≡ hangs_on b.parts (needs_by b c) f j) (sym o) (rw get_or-set_same e)
+        | inl o ↦ subst (λ (j : ℕ). get_or (set xs n v) j false ≡ hangs b f j) (sym o) (rw get_or-set_same e)
         | inr ne ↦ rw get_or-set_other (s.made x (omega arith))
       ];
       none = λ x l. let ne : x ≢ n = λ q. omega arith in rw get_or-set_other (s.none x (omega arith));
     })
 
 -- all of them
-pub hits_all : (b : Board) (c : ℕ → Bool) (f : ℕ) (h : ℕ → Bool) (n : ℕ) → b.parts ≤ n → f < b.parts → HitsTo b c f n h → (x : ℕ) → h x ≡ hangs_on b.parts (needs_by b c) f x
-hits_all b c f h n e l s x = elim (cases_lt x n) [ inl i ↦ s.made x i | inr g ↦ s.none x (omega arith) ∙ sym (hang_past b.parts (needs_by b c) f x l (omega arith)) ]
+pub hits_all : (b : Board) (f : ℕ) (h : ℕ → Bool) (n : ℕ) → b.parts ≤ n → f < b.parts → HitsTo b f n h → (x : ℕ) → h x ≡ hangs b f x
+hits_all b f h n e l s x = elim (cases_lt x n) [ inl i ↦ s.made x i | inr g ↦ s.none x (omega arith) ∙ sym (hangs_past b f x l (omega arith)) ]

@@ -1,6 +1,5 @@
 -- The keeper's invariant: at the start, and after a call. Assumes nothing.
-use Rattle.std.proofs.Common.{◌≡◌, ℕ, ◌<◌, ◌≤◌, true, false, not, T, ◌≢◌, replicate, sym, refl, ap, ◌∙◌, subst, arith, T_not}
-use lib.Dec.{not_T}
+use Rattle.std.proofs.Common.{◌≡◌, ℕ, ◌<◌, false, not, T, ◌≢◌, replicate, sym, ◌∙◌, subst, arith}
 use Rattle.power.specs.declared.Call.{Call}
 use Rattle.power.specs.declared.Keeper.{Keeper}
 use Rattle.power.specs.declared.types.Aims.{Aims}
@@ -13,7 +12,7 @@ use Rattle.power.specs.Turns.{AimsFor, DoneWith}
 use Rattle.power.specs.Kept.{Mirrors, Kept}
 use Rattle.power.proofs.OneWish.{granted_asked, none_granted}
 use Rattle.power.proofs.Puts.{put_other}
-use Rattle.power.proofs.Calls.{called_away, called_want, called_give}
+use Rattle.power.proofs.Calls.{called_away}
 use Rattle.power.proofs.Said.{says_start}
 use Rattle.power.proofs.Losses.{losses_none, losses_wish}
 use Rattle.power.proofs.SoundUsers.{sound_start, sound_called}

@@ -1,11 +1,11 @@
 -- The keeper's invariant when a part fell, and when somebody is told that what they had is gone. Assumes nothing.
-use Rattle.std.proofs.Common.{◌≡◌, ℕ, ◌+◌, ◌-◌, ◌<◌, ◌≤◌, Bool, true, false, cond, not, T, ltb, ◌≢◌, ◌⊎◌, set, Some, None, sym, refl, ap, ◌∙◌, subst, inl, inr, arith, lt→ltb, T_not}
+use Rattle.std.proofs.Common.{◌≡◌, ℕ, ◌-◌, ◌<◌, ◌≤◌, Bool, true, false, cond, T, ltb, ◌≢◌, set, Some, None, sym, refl, ap, ◌∙◌, subst, inl, inr, arith, lt→ltb, T_not}
 use mathlib.Core.Path.{fun_ext}
 use lib.Dec.{not_T}
-use Rattle.std.proofs.lemmas.Bool.{cases_lt, cases_eq, le-ltb, lt-ltb}
+use Rattle.std.proofs.lemmas.Bool.{cases_lt, cases_eq}
 use Rattle.power.specs.declared.Answer.TheVariants.{No}
 use Rattle.power.specs.declared.Next.{Next}
-use Rattle.power.specs.declared.Next.TheVariants.{Calls, Tick, Over}
+use Rattle.power.specs.declared.Next.TheVariants.{Calls}
 use Rattle.power.specs.declared.Call.{Call}
 use Rattle.power.specs.declared.types.Aims.{Aims}
 use Rattle.power.specs.declared.Keeper.{Keeper}
@@ -13,13 +13,13 @@ use Rattle.power.specs.declared.state.Wanted.{Wanted}
 use Rattle.power.specs.declared.state.Wanted.TheVariants as wanted
 use Rattle.power.specs.Board.{Board, Wish, None', Asked, Granted, Lost, is_asked, is_lost, losses, put, with_wish, young, older, ticked, told, told_of, may_tell, may_tell_of, is_six, fallen, MayFall, Between, same, falls}
 use Rattle.power.specs.Moves.{OnlyParts}
-use Rattle.power.specs.Mirrors.{Says, SaysAll, Waits, HasLost, wanted_by}
+use Rattle.power.specs.Mirrors.{Says, Waits, HasLost, wanted_by}
 use Rattle.power.specs.Ages.{Bears}
 use Rattle.power.specs.Turns.{AimsFor}
 use Rattle.power.specs.Falls.{all_asked, NoneFell, noticed, NoLoss}
 use Rattle.power.specs.Kept.{Mirrors, Kept, KeptOrFell, FellFrom, NobodyLost, Ready, Worked}
 use Rattle.power.proofs.Tests.{and_i}
-use Rattle.power.proofs.Puts.{put_same, put_here, put_other, put_each}
+use Rattle.power.proofs.Puts.{put_here, put_other, put_each}
 use Rattle.power.proofs.OneWish.{none_granted}
 use Rattle.power.proofs.Said.{waits_asked, says_put}
 use Rattle.power.proofs.SoundUsers.{sound_told}

@@ -2,21 +2,18 @@ pub mod Ages
 pub mod Aiming
 pub mod AimsKept
 pub mod Asked
-pub mod Blaming
 pub mod Calls
-pub mod Choosing
 pub mod Costs
 pub mod Draws
 pub mod Fitted
 pub mod GivenBack
-pub mod Granting
 pub mod Hanging
+pub mod Granting
 pub mod Joined
 pub mod KeptCalls
 pub mod KeptFalls
 pub mod KeptTicks
 pub mod Larger
-pub mod Locality
 pub mod Losses
 pub mod Lowest
 pub mod Moved
@@ -25,7 +22,6 @@ pub mod OnePart
 pub mod OneWish
 pub mod Plain
 pub mod Plans
-pub mod Promised
 pub mod Pursuing
 pub mod Pushing
 pub mod Puts
@@ -45,4 +41,3 @@ pub mod Targets
 pub mod Tellings
 pub mod Tests
 pub mod Totals
-pub mod Ways

@@ -1,5 +1,5 @@
 -- How many lost something and aren't told yet: fewer by a call, fewer by a 7, the same after a tick. Assumes nothing.
-use Rattle.std.proofs.Common.{◌≡◌, ℕ, zero, suc, ◌+◌, ◌<◌, ◌≤◌, Bool, true, false, cond, not, T, ◌≢◌, sym, refl, ap, ◌∙◌, subst, inl, inr, not-suc-le-zero, arith, T_not}
+use Rattle.std.proofs.Common.{◌≡◌, ℕ, zero, suc, ◌+◌, ◌<◌, ◌≤◌, Bool, true, false, cond, not, T, sym, refl, subst, inl, inr, not-suc-le-zero, arith, T_not}
 use Rattle.std.proofs.lemmas.Bool.{cases_lt}
 use Rattle.power.specs.Board.{Board, Wish, None', Asked, Granted, Lost, count, is_lost, losses, put, with_wish, older, ticked, told_of, told}
 use Rattle.power.specs.declared.Answer.{Answer}

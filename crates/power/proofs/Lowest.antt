@@ -3,9 +3,10 @@ use Rattle.std.proofs.Common.{◌≡◌, ℕ, zero, suc, ◌+◌, ◌<◌, ◌�
 use lib.Dec.{not_T}
 use Rattle.std.proofs.lemmas.List.{get_or_past}
 use Rattle.std.proofs.lemmas.Bool.{cases_lt, cases_eq}
-use Rattle.power.specs.Board.{Board, on_of, least_of}
+use Rattle.power.specs.Board.{Board, on_of, least_of, least_levels, can_be, good_plan}
+use Rattle.power.specs.Promise.{serves, LeastServes, LeastIsLeast, MoreIsMore, CannotBe}
 use Rattle.power.specs.Aim.{Fits, Serves}
-use Rattle.power.specs.Least.{lv, FewerCanBe, can_fit, plain_levels, plain_plan, serves_at}
+use Rattle.power.specs.Least.{lv, FewerCanBe}
 use Rattle.power.proofs.Tests.{every_at}
 use Rattle.power.proofs.Plans.{plan_at}
 use Rattle.power.proofs.Draws.{draws_less}
@@ -14,16 +15,16 @@ use Rattle.power.proofs.Plain.{Wanted, serves_plainly, serves_of, allowed_plainl
 
 -- WHAT IT IS
 pub least_past : (b : Board) (want : ℕ → ℕ) (x : ℕ) → b.parts ≤ x → lv b want x ≡ 0
-least_past b want x h = get_or_past (plain_levels b want) x 0 (omega (arith, length_levels b.needs want b.parts 0))
+least_past b want x h = get_or_past (least_levels b want) x 0 (omega (arith, length_levels b.needs want b.parts 0))
 
 -- only what's wanted of the board's parts counts
-pub least_same : (b : Board) (want also : ℕ → ℕ) → ((x : ℕ) → x < b.parts → want x ≡ also x) → plain_levels b want ≡ plain_levels b also
+pub least_same : (b : Board) (want also : ℕ → ℕ) → ((x : ℕ) → x < b.parts → want x ≡ also x) → least_levels b want ≡ least_levels b also
 least_same b want also h = levels_same b.needs want also b.parts 0 (λ z l g. h z (omega arith))
 
 pub least_wanted : (b : Board) (want : ℕ → ℕ) → Wanted b want (lv b want)
 least_wanted b want x h = levels_wanted b.needs want b.parts 0 x x (omega arith) h
 
-pub serves_least : (b : Board) (want : ℕ → ℕ) → T (plain_plan b) → Serves b (lv b want)
+pub serves_least : (b : Board) (want : ℕ → ℕ) → T (good_plan b) → Serves b (lv b want)
 serves_least b want g x k h p i =
     let y = on_of k (b.needs x) in
     omega (
@@ -33,7 +34,7 @@ serves_least b want g x k h p i =
     )
 
 -- the same of a part that is off too, as it needs nothing
-pub least_asked : (b : Board) (want : ℕ → ℕ) → T (plain_plan b) → (x k : ℕ) → x < b.parts → k < length (b.needs x) → least_of k (lv b want x) (b.needs x) ≤ lv b want (on_of k (b.needs x))
+pub least_asked : (b : Board) (want : ℕ → ℕ) → T (good_plan b) → (x k : ℕ) → x < b.parts → k < length (b.needs x) → least_of k (lv b want x) (b.needs x) ≤ lv b want (on_of k (b.needs x))
 least_asked b want g x k h i =
     elim (cases_eq (lv b want x) 0) [
       | inl z ↦ omega (arith, ap (λ (l : ℕ). least_of k l (b.needs x)) z, (plan_at b g x h k i).zeroth)
@@ -49,7 +50,7 @@ least_le b want y m h p q =
     (λ x w e l g r. let v : w ≡ x = omega arith in rw v (asked_le y (lv b want x) (b.needs x) m (λ k i o. q x k l g r i o)))
 
 -- IT'S LEAST, from the last part to the first
-below_from : (b : Board) (want f : ℕ → ℕ) → T (plain_plan b) → ((x : ℕ) → x < b.parts → f x ≤ 15) → Wanted b want f → Serves b f →
+below_from : (b : Board) (want f : ℕ → ℕ) → T (good_plan b) → ((x : ℕ) → x < b.parts → f x ≤ 15) → Wanted b want f → Serves b f →
     (d x : ℕ) → b.parts ≤ x + d → x < b.parts → lv b want x ≤ f x
 below_from b want f g c w s zero x e h = absurd (omega arith)
 below_from b want f g c w s (suc d) x e h =
@@ -59,7 +60,7 @@ below_from b want f g c w s (suc d) x e h =
     let v = c z j in
     omega (arith, (plan_at b g z j k i).climbs (lv b want z) (f z) r (omega arith), s z k j (omega arith) i, ap f o))
 
-pub least_below : (b : Board) (want f : ℕ → ℕ) → T (plain_plan b) → ((x : ℕ) → x < b.parts → f x ≤ 15) → Wanted b want f → Serves b f → (x : ℕ) → lv b want x ≤ f x
+pub least_below : (b : Board) (want f : ℕ → ℕ) → T (good_plan b) → ((x : ℕ) → x < b.parts → f x ≤ 15) → Wanted b want f → Serves b f → (x : ℕ) → lv b want x ≤ f x
 least_below b want f g c w s x =
     elim (cases_lt x b.parts) [
       | inl h ↦ below_from b want f g c w s b.parts x (omega arith) h
@@ -67,10 +68,10 @@ least_below b want f g c w s x =
     ]
 
 -- IT FITS where what's wanted can be
-pub fits_least : (b : Board) (want : ℕ → ℕ) → T (plain_plan b) → T (can_fit b want) → Fits b (lv b want)
+pub fits_least : (b : Board) (want : ℕ → ℕ) → T (good_plan b) → T (can_be b want) → Fits b (lv b want)
 fits_least b want g c = fits_both b (lv b want) (serves_least b want g) (allowed_plainly b (lv b want) c)
 
-pub least_fifteen : (b : Board) (want : ℕ → ℕ) → T (can_fit b want) → (x : ℕ) → lv b want x ≤ 15
+pub least_fifteen : (b : Board) (want : ℕ → ℕ) → T (can_be b want) → (x : ℕ) → lv b want x ≤ 15
 least_fifteen b want c x =
     elim (cases_lt x b.parts) [
       | inl h ↦ (allowed_plainly b (lv b want) c).fifteen x h
@@ -78,7 +79,7 @@ least_fifteen b want c x =
     ]
 
 -- and it can be where any levels fit that are as high as what's wanted
-pub can_by : (b : Board) (want f : ℕ → ℕ) → T (plain_plan b) → Wanted b want f → Fits b f → T (can_fit b want)
+pub can_by : (b : Board) (want f : ℕ → ℕ) → T (good_plan b) → Wanted b want f → Fits b f → T (can_be b want)
 can_by b want f g w t =
     let u = least_below b want f g t.fifteen w (fits_serves b f t) in
     allowed_of b (lv b want)
@@ -89,7 +90,7 @@ can_by b want f g w t =
     })
 
 -- MORE AND LESS
-pub least_more : (b : Board) (want more : ℕ → ℕ) → T (plain_plan b) → Wanted b want more → T (can_fit b more) → (x : ℕ) → lv b want x ≤ lv b more x
+pub least_more : (b : Board) (want more : ℕ → ℕ) → T (good_plan b) → Wanted b want more → T (can_be b more) → (x : ℕ) → lv b want x ≤ lv b more x
 least_more b want more g w c x =
     least_below b want (lv b more) g (λ z h. least_fifteen b more c z) (λ z h. omega (arith, w z h, least_wanted b more z h)) (serves_least b more g) x
 
@@ -97,5 +98,26 @@ pub can_less : FewerCanBe
 can_less b want more g w c =
     can_by b want (lv b more) g (λ x h. omega (arith, w x h, least_wanted b more x h)) (fits_least b more g c)
 
-pub cannot_more : (b : Board) (want more : ℕ → ℕ) → T (plain_plan b) → Wanted b want more → T (not (can_fit b want)) → T (not (can_fit b more))
-cannot_more b want more g w n = not_T (can_fit b more) (λ c. T_not (can_fit b want) n (can_less b want more g w c))
+pub cannot_more : (b : Board) (want more : ℕ → ℕ) → T (good_plan b) → Wanted b want more → T (not (can_be b want)) → T (not (can_be b more))
+cannot_more b want more g w n = not_T (can_be b more) (λ c. T_not (can_be b want) n (can_less b want more g w c))
+
+-- WHAT IS PROMISED
+-- whether it can be or not
+pub always_serves : (b : Board) (want : ℕ → ℕ) → T (good_plan b) → T (serves b want (lv b want))
+always_serves b want g = serves_of b want (lv b want) (least_wanted b want) (serves_least b want g)
+
+pub least_serves : LeastServes
+least_serves b want g low c = always_serves b want g
+
+pub least_is_least : LeastIsLeast
+least_is_least b want f g low s x h =
+    let p = serves_plainly b want f s in
+    least_below b want f g (λ z k. leb→le (f z) 15 (every_at b.parts _ low z k)) p.0 p.1 x
+
+pub more_is_more : MoreIsMore
+more_is_more b want more g w c x h = least_more b want more g (λ z k. w z) c x
+
+pub cannot_be : CannotBe
+cannot_be b want f g s a =
+    let p = serves_plainly b want f s in
+    can_by b want f g p.0 (fits_both b f p.1 (allowed_plainly b f a))

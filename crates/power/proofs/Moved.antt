@@ -1,78 +1,19 @@
 -- What walks over the board leave, put together step by step. Assumes nothing.
-use Rattle.std.proofs.Common.{◌≡◌, ℕ, ◌+◌, ◌-◌, ◌<◌, ◌≤◌, Bool, true, false, cond, not, T, ltb, List, get_or, sym, refl, ap, ◌∙◌, subst, arith, lt→ltb, T_not}
-use Rattle.power.specs.Board.{Board, Part, Off, Rising, On, level_of, put, with_parts, raised, lowered, levelled, MayLevel, Tries, good, not_yet, is_off, granted, least_by, stands}
-use Rattle.power.specs.Sound.{Sound}
+use Rattle.std.proofs.Common.{◌≡◌, ℕ, ◌+◌, ◌-◌, ◌<◌, ◌≤◌, Bool, true, false, cond, ltb, sym, refl, ap, ◌∙◌, subst, arith}
+use Rattle.power.specs.Board.{Board, Part, Off, Rising, On, level_of, put, with_parts, raised, lowered, levelled, MayLevel, Tries, good, not_yet}
 use Rattle.power.specs.Walk.{Under, Down, Up}
 use Rattle.power.specs.Cost.{costs}
 use Rattle.power.specs.Moves.{OnlyParts, CameDown, CameNearer}
-use Rattle.power.proofs.Puts.{put_other}
-use Rattle.power.proofs.OnePart.{off_is, on_is, not_off, level_off, level_on}
-use Rattle.power.proofs.SoundLevels.{stands_on}
-use Rattle.power.proofs.Locality.{locality}
+use Rattle.power.proofs.OnePart.{off_is, on_is, level_off, level_on}
 use Rattle.power.proofs.Costs.{each_asking_pays, height_put}
-use Rattle.power.proofs.Sweeps.{goes_put, down_steps, up_steps}
+use Rattle.power.proofs.Sweeps.{down_steps, up_steps}
 
 -- ONLY PARTS
 pub only_then : (a b c : Board) → OnlyParts a b → OnlyParts b c → OnlyParts a c
-only_then a b c p q =
-    record {
-      parts = q.parts ∙ p.parts;
-      needs = q.needs ∙ p.needs;
-      either = q.either ∙ p.either;
-      draws = q.draws ∙ p.draws;
-      gives = q.gives ∙ p.gives;
-      wish = q.wish ∙ p.wish;
-      quiet = q.quiet ∙ p.quiet;
-      fell = q.fell ∙ p.fell;
-      hit = q.hit ∙ p.hit;
-      calm = q.calm ∙ p.calm;
-      owed = q.owed ∙ p.owed;
-      made = q.made ∙ p.made;
-      whose = q.whose ∙ p.whose;
-      turned = q.turned ∙ p.turned;
-      sides = λ x t. q.sides x (subst (λ (ls : List ℕ). T (ltb 0 (get_or ls x 0))) (sym p.stand) t) ∙ p.sides x t;
-      stand = q.stand ∙ p.stand;
-    }
-
--- nothing was asked; a part changed that keeps its side
-pub only_self : (b : Board) → OnlyParts b b
-only_self b =
-    record {
-      parts = refl;
-      needs = refl;
-      either = refl;
-      draws = refl;
-      gives = refl;
-      wish = refl;
-      quiet = refl;
-      fell = refl;
-      hit = refl;
-      calm = refl;
-      owed = refl;
-      made = refl;
-      whose = refl;
-      turned = refl;
-      sides = λ x t. refl;
-      stand = refl;
-    }
-
--- by a lemma of records: the same fields, for another board
-only_like : (b b' : Board) → b'.parts ≡ b.parts → b'.needs ≡ b.needs → b'.either ≡ b.either → b'.draws ≡ b.draws → b'.gives ≡ b.gives → b'.wish ≡ b.wish → b'.quiet ≡ b.quiet →
-    b'.fell ≡ b.fell → b'.hit ≡ b.hit → b'.calm ≡ b.calm → b'.owed ≡ b.owed → b'.made ≡ b.made → b'.whose ≡ b.whose → b'.turned ≡ b.turned → ((x : ℕ) → T (stands b x) → b'.choice x ≡ b.choice x) →
-    least_by b' b'.choice (granted b') ≡ least_by b b.choice (granted b) → OnlyParts b b'
-only_like b b' e₁ e₂ e₃ e₄ e₅ e₆ e₇ e₈ e₉ d₁ d₂ d₃ d₄ d₅ d₆ d₇ =
-    record { parts = e₁; needs = e₂; either = e₃; draws = e₄; gives = e₅; wish = e₆; quiet = e₇; fell = e₈; hit = e₉; calm = d₁; owed = d₂; made = d₃; whose = d₄; turned = d₅; sides = d₆; stand = d₇ }
+only_then a b c p q = record { parts = q.parts ∙ p.parts; needs = q.needs ∙ p.needs; draws = q.draws ∙ p.draws; gives = q.gives ∙ p.gives; wish = q.wish ∙ p.wish; quiet = q.quiet ∙ p.quiet; fell = q.fell ∙ p.fell; hit = q.hit ∙ p.hit; calm = q.calm ∙ p.calm; owed = q.owed ∙ p.owed }
 
 pub only_step : (b : Board) (p : ℕ → Part) (t : ℕ → ℕ) → OnlyParts b (with_parts p t b)
-only_step b p t = only_like b (with_parts p t b) refl refl refl refl refl refl refl refl refl refl refl refl refl refl (λ x s. refl) refl
-
--- a part that is off rises by another side: what's granted doesn't need it
-pub only_raised : (b : Board) → Sound b → (x : ℕ) (c : Bool) → T (is_off (b.part x)) → OnlyParts b (raised x c b)
-only_raised b s x c off =
-    let other : (y : ℕ) → T (stands b y) → put x c b.choice y ≡ b.choice y =
-    λ y t. put_other x c b.choice y (λ e. T_not (is_off (b.part y)) (stands_on b s y t) (subst (λ (z : ℕ). T (is_off (b.part z))) (sym e) off)) in
-    only_like b (raised x c b) refl refl refl refl refl refl refl refl refl refl refl refl refl refl other
-    (sym (locality b b.choice (put x c b.choice) (granted b) (λ y hy two h. sym (other y (lt→ltb 0 (get_or (least_by b b.choice (granted b)) y 0) h)))))
+only_step b p t = record { parts = refl; needs = refl; draws = refl; gives = refl; wish = refl; quiet = refl; fell = refl; hit = refl; calm = refl; owed = refl }
 
 -- DOWN
 pub came_down_then : (t : ℕ → ℕ) (n : ℕ) (a : Board) (m : ℕ) (b : Board) (k : ℕ) (c : Board) → CameDown t n a m b → CameDown t m b k c → CameDown t n a k c
@@ -81,7 +22,6 @@ came_down_then t n a m b k c p q =
       only = only_then a b c p.only q.only;
       lower = omega (arith, p.lower, q.lower);
       nearer = λ l u. omega (arith, p.nearer l u, q.nearer l (λ z h. u z (omega (arith, p.only.parts))));
-      goes = λ g. q.goes (p.goes g);
     }
 
 -- x gets lower, and nearer to any goal below the ceiling, by one asking
@@ -93,7 +33,6 @@ came_down_put t n b n' x q f e hx h c =
       only = only_step b (put x q b.part) f;
       lower = omega (arith, height_put b x q f hx h);
       nearer = λ l u. omega (arith, c l u);
-      goes = goes_put b x q f (not_off (b.part x) (omega arith));
     }
 
 pub may_level_down :
@@ -139,13 +78,12 @@ may_level_up b t l x v u hx some on h =
 module _ (t l : ℕ → ℕ) (n : ℕ) (a : Board) (m : ℕ) (b : Board) (x : ℕ)
     (came : CameNearer l n a m b) (u : Up b t l x) (hx : x < b.parts) (wanted : 0 < l x)
     (m' : ℕ) (spent : m' + 1 ≡ m) (b' : Board) where
-  pub raises_on : 0 < b.left → b.part x ≡ Off → (c : Bool) → c ≡ b.made x → b' ≡ raised x c b → CameNearer l n a m' b' × Up b' t l x
-  raises_on some off c ec e =
-      let o = off_is (b.part x) off in
-      subst (λ (d : Board). CameNearer l n a m' d × Up d t l x) (sym (e ∙ ap (λ (d : Bool). raised x d b) ec)) (
-        came_nearer_then l n a m b m' (raised x (b.made x) b) came
-            (record { only = only_raised b u.sound x (b.made x) o; nearer = let h = (each_asking_pays b l x hx).0 (b.made x) o wanted in omega arith }),
-        ((up_steps b t l x hx u).0 some o wanted).1,
+  pub raises_on : 0 < b.left → b.part x ≡ Off → b' ≡ raised x b → CameNearer l n a m' b' × Up b' t l x
+  raises_on some off e =
+      subst (λ (c : Board). CameNearer l n a m' c × Up c t l x) (sym e) (
+        came_nearer_then l n a m b m' (raised x b) came
+            (came_nearer_step l m b m' (put x Rising b.part) (put x 0 b.tried) spent ((each_asking_pays b l x hx).0 (off_is (b.part x) off) wanted)),
+        ((up_steps b t l x hx u).0 some (off_is (b.part x) off) wanted).1,
       )
 
   pub levels_up : 0 < b.left → (v : ℕ) → b.part x ≡ On v → v < l x → b' ≡ levelled x (v + 1) b → CameNearer l n a m' b' × Up b' t l x

@@ -1,8 +1,8 @@
 -- Levels that serve, and levels that are allowed: the tests as plain facts, one way and back. Assumes nothing.
 use Rattle.std.proofs.Common.{ℕ, zero, suc, ◌<◌, ◌≤◌, Bool, not, T, eqb, leb, length, inl, inr, arith, le→leb, eqb→eq, leb→le, T_not}
 use lib.Dec.{eqb_refl}
-use Rattle.power.specs.Least.{allowed_at, plain_plan, serves_at}
-use Rattle.power.specs.Board.{Board, on_of, least_of, most_of, drawn_at}
+use Rattle.power.specs.Board.{Board, on_of, least_of, most_of, drawn_at, good_plan}
+use Rattle.power.specs.Promise.{serves, allowed'}
 use Rattle.power.specs.Aim.{Fits, Serves}
 use Rattle.power.specs.Found.{needs_fit, parts_fit}
 use Rattle.power.proofs.Tests.{and_l, and_r, and_i, or_i, or_not, way, every_at, every_of, all_at, all_of}
@@ -22,7 +22,7 @@ pub record Allowed (b : Board) (f : ℕ → ℕ) : Type 0 where
 not_zero : (l : ℕ) → 0 < l → T (not (eqb l 0))
 not_zero l h = elim (way (eqb l 0)) [ inl t ↦ absurd (omega (arith, eqb→eq l 0 t)) | inr t ↦ t ]
 
-pub above_zero : (l : ℕ) → T (not (eqb l 0)) → 0 < l
+above_zero : (l : ℕ) → T (not (eqb l 0)) → 0 < l
 above_zero zero t = absurd (T_not (eqb 0 0) t (eqb_refl 0))
 above_zero (suc l) t = omega arith
 
@@ -34,7 +34,7 @@ allows : (ℕ → ℕ) → ℕ → (ℕ → ℕ) → ℕ → Bool
 allows f o ls m = leb (f o) m
 
 -- SERVES
-pub serves_plainly : (b : Board) (want f : ℕ → ℕ) → T (serves_at b want f) → Wanted b want f × Serves b f
+pub serves_plainly : (b : Board) (want f : ℕ → ℕ) → T (serves b want f) → Wanted b want f × Serves b f
 unfolding asks
 serves_plainly b want f t = (
   λ x h. leb→le (want x) (f x) (and_l (leb (want x) (f x)) _ (every_at b.parts _ t x h)),
@@ -43,7 +43,7 @@ serves_plainly b want f t = (
       (all_at (asks f (f x)) (b.needs x) (or_not (eqb (f x) 0) _ (and_r (leb (want x) (f x)) _ (every_at b.parts _ t x h)) (not_zero (f x) p)) k i),
 )
 
-pub serves_of : (b : Board) (want f : ℕ → ℕ) → Wanted b want f → Serves b f → T (serves_at b want f)
+pub serves_of : (b : Board) (want f : ℕ → ℕ) → Wanted b want f → Serves b f → T (serves b want f)
 unfolding asks
 serves_of b want f w s =
     every_of b.parts _
@@ -60,7 +60,7 @@ pub needs_fit_of : (b : Board) (f : ℕ → ℕ) (x : ℕ) → ((k : ℕ) → k 
 unfolding allows
 needs_fit_of b f x h = all_of (allows f) (b.needs x) (λ k i. le→leb (f (on_of k (b.needs x))) (most_of k (b.needs x)) (h k i))
 
-pub allowed_plainly : (b : Board) (f : ℕ → ℕ) → T (allowed_at b f) → Allowed b f
+pub allowed_plainly : (b : Board) (f : ℕ → ℕ) → T (allowed' b f) → Allowed b f
 allowed_plainly b f t =
     let D = leb (drawn_at b f) b.gives in
     let each = every_at b.parts _ (and_l (parts_fit b f) D t) in
@@ -70,7 +70,7 @@ allowed_plainly b f t =
       draws = leb→le (drawn_at b f) b.gives (and_r (parts_fit b f) D t);
     }
 
-pub allowed_of : (b : Board) (f : ℕ → ℕ) → Allowed b f → T (allowed_at b f)
+pub allowed_of : (b : Board) (f : ℕ → ℕ) → Allowed b f → T (allowed' b f)
 allowed_of b f a =
     and_i (parts_fit b f) (leb (drawn_at b f) b.gives)
     (every_of b.parts _
@@ -89,5 +89,5 @@ pub fits_allowed : (b : Board) (f : ℕ → ℕ) → Fits b f → Allowed b f
 fits_allowed b f t = record { fifteen = t.fifteen; under = λ x k h p i. (t.meets x k h p i).1; draws = t.draws }
 
 -- what's needed by a part that isn't off isn't off
-pub serves_on : (b : Board) (f : ℕ → ℕ) → T (plain_plan b) → Serves b f → (x k : ℕ) → x < b.parts → 0 < f x → f x ≤ 15 → k < length (b.needs x) → 0 < f (on_of k (b.needs x))
+pub serves_on : (b : Board) (f : ℕ → ℕ) → T (good_plan b) → Serves b f → (x k : ℕ) → x < b.parts → 0 < f x → f x ≤ 15 → k < length (b.needs x) → 0 < f (on_of k (b.needs x))
 serves_on b f g s x k h p l i = omega (arith, s x k h p i, least_one x (b.needs x) k (f x) (plan_at b g x h k i) p (omega arith))

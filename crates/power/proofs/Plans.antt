@@ -1,8 +1,7 @@
 -- What a plan that makes sense says of each need, and of what is drawn. Assumes nothing.
-use Rattle.std.proofs.Common.{◌≡◌, ℕ, zero, suc, ◌<◌, ◌≤◌, Bool, true, false, ◌&&◌, T, eqb, ltb, leb, List, [], ◌∷◌, length, get_or, zero-le, le_of_suc-le-suc, not-suc-le-zero, arith, eqb→eq, ltb→lt, leb→le}
-use Rattle.power.specs.Least.{settled, plain_plan}
-use Rattle.power.specs.Board.{Board, Need, on_of, least_of, most_of, all, least_at, rising, every, needs_on, needs_by, needs_now, in_order, good_need, good_needs, good_part, good_plan, good_draw, apart, draw_at}
-use Rattle.power.proofs.Tests.{and_l, and_r, and_i, every_at, every_of}
+use Rattle.std.proofs.Common.{◌≡◌, ℕ, zero, suc, ◌<◌, ◌≤◌, ◌&&◌, T, eqb, ltb, leb, List, [], ◌∷◌, length, get_or, zero-le, le_of_suc-le-suc, not-suc-le-zero, arith, eqb→eq, ltb→lt, leb→le}
+use Rattle.power.specs.Board.{Board, Need, on_of, least_of, most_of, all, least_at, rising, good_need, good_draw, good_plan, apart, draw_at}
+use Rattle.power.proofs.Tests.{and_l, and_r, every_at}
 
 -- what's `rising` never falls
 pub rises : (xs : List ℕ) → T (rising xs) → (i j : ℕ) → i ≤ j → j < length xs → get_or xs i 0 ≤ get_or xs j 0
@@ -58,7 +57,7 @@ good_at x (n ∷ ns) t (suc k) h =
     let r = good_at x ns (and_r (good_need x n) _ t) k (le_of_suc-le-suc h) in
     record { below = r.below; climbs = r.climbs; zeroth = r.zeroth; first = r.first; fifteen = r.fifteen }
 
-pub plan_at : (b : Board) → T (plain_plan b) → (x : ℕ) → x < b.parts → (k : ℕ) → k < length (b.needs x) → GoodAt x (b.needs x) k
+pub plan_at : (b : Board) → T (good_plan b) → (x : ℕ) → x < b.parts → (k : ℕ) → k < length (b.needs x) → GoodAt x (b.needs x) k
 plan_at b t x h k l =
     let G = all (good_need x) (b.needs x) in
     let A = apart (b.needs x) in
@@ -66,34 +65,12 @@ plan_at b t x h k l =
     let D = good_draw (b.draws x) in
     good_at x (b.needs x) (and_l G A (and_l (G && A) L (and_l (G && A && L) D (every_at b.parts _ t x h)))) k l
 
--- a plan that makes sense does so by whatever choice
-pub settle_plan : (b : Board) (c : ℕ → Bool) → T (good_plan b) → T (plain_plan (settled c b))
-settle_plan b c t =
-    every_of b.parts _ (λ x h.
-    let F = good_needs x (needs_on b x false) in
-    let S = good_needs x (needs_on b x true) in
-    let O = in_order (b.either x) in
-    let D = good_draw (b.draws x) in
-    let p = every_at b.parts (good_part b) (and_l (every b.parts (good_part b)) _ t) x h in
-    let q = and_l (F && S) O (and_l (F && S && O) D p) in
-    and_i (good_needs x (needs_by b c x)) D (go x (c x) (and_l F S q) (and_r F S q)) (and_r (F && S && O) D p))
-  where
-    go : (x : ℕ) (s : Bool) → T (good_needs x (needs_on b x false)) → T (good_needs x (needs_on b x true)) → T (good_needs x (needs_on b x s))
-    go x false f t = f
-    go x true f t = t
-
-pub plan_by : (b : Board) (c : ℕ → Bool) → T (good_plan b) → (x : ℕ) → x < b.parts → (k : ℕ) → k < length (needs_by b c x) → GoodAt x (needs_by b c x) k
-plan_by b c t x h k l = plan_at (settled c b) (settle_plan b c t) x h k l
-
-pub plan_now : (b : Board) → T (good_plan b) → (x : ℕ) → x < b.parts → (k : ℕ) → k < length (needs_now b x) → GoodAt x (needs_now b x) k
-plan_now b = plan_by b b.choice
-
 -- and of what it draws
 pub record DrawsWell (b : Board) (x : ℕ) : Type 0 where
   pub zeroth : draw_at b x 0 ≡ 0
   pub climbs : (l l' : ℕ) → l ≤ l' → l' < 16 → draw_at b x l ≤ draw_at b x l'
 
-pub plan_draws : (b : Board) → T (plain_plan b) → (x : ℕ) → x < b.parts → DrawsWell b x
+pub plan_draws : (b : Board) → T (good_plan b) → (x : ℕ) → x < b.parts → DrawsWell b x
 plan_draws b t x h =
     let N = all (good_need x) (b.needs x) && apart (b.needs x) && leb (length (b.needs x)) 4 in
     let ds = b.draws x in

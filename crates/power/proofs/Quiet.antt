@@ -4,7 +4,7 @@ use mathlib.Core.Path.{fun_ext}
 use lib.Dec.{not_T}
 use Rattle.std.proofs.lemmas.Bool.{cond_both, cond-true, cond-false}
 use Rattle.std.proofs.lemmas.Bool.Decides.{nat_tests}
-use Rattle.power.specs.Board.{Board, Wish, None', Asked, Granted, Lost, every, some', is_off, is_asked, losses, want_of, most, granted, level_of, least_by, lean, young, older, ticked, in_time}
+use Rattle.power.specs.Board.{Board, Wish, None', Asked, Granted, Lost, every, some', is_off, is_asked, losses, want_of, most, granted, level_of, least_levels, lean, young, older, ticked, in_time}
 use Rattle.power.specs.Sound.{Sound}
 use Rattle.power.proofs.Tests.{and_i, or_i, or_l, or_r, every_of, none_of, some_of}
 use Rattle.power.proofs.Sheet.{not_not, eq→eqb}
@@ -64,7 +64,7 @@ granted_ticked b =
 
 pub lean_ticked : (b : Board) → T (lean b) → T (lean (ticked b))
 lean_ticked b t =
-    subst (λ (w : ℕ → ℕ). T (every b.parts (λ (x : ℕ). eqb (level_of (b.part x)) (get_or (least_by b b.choice w) x 0)))) (sym (granted_ticked b)) t
+    subst (λ (w : ℕ → ℕ). T (every b.parts (λ (x : ℕ). eqb (level_of (b.part x)) (get_or (least_levels b w) x 0)))) (sym (granted_ticked b)) t
 
 -- a board that gets past 32 quiet ticks was there before, or was at 32
 pub lean_soon : (b : Board) → b.quiet ≡ 0 → 32 < (ticked b).quiet → T (lean b)

@@ -1,8 +1,7 @@
 -- A part fell, and what hangs on it was taken down: what the keeper knows, what it aims at, and who waits. Assumes nothing.
-use Rattle.std.proofs.Common.{◌≡◌, ℕ, ◌+◌, ◌<◌, ◌≤◌, Bool, true, false, cond, not, T, ltb, ◌≢◌, List, length, set, sym, refl, ap, ◌∙◌, subst, inl, inr, le_antisymm, arith, eqb→eq, T_not}
+use Rattle.std.proofs.Common.{◌≡◌, ℕ, ◌<◌, ◌≤◌, Bool, true, false, cond, not, T, List, length, set, sym, refl, ap, ◌∙◌, subst, inl, inr, le_antisymm, arith, eqb→eq}
 use mathlib.Core.Path.{fun_ext}
-use lib.Dec.{not_T}
-use Rattle.std.proofs.lemmas.Bool.{cases_lt, cases_eq, lt-ltb, le-ltb}
+use Rattle.std.proofs.lemmas.Bool.{cases_lt, lt-ltb, le-ltb}
 use Rattle.power.specs.declared.types.Aims.{Aims}
 use Rattle.power.specs.declared.state.Driver.{Driver}
 use Rattle.power.specs.declared.state.PartState.{PartState}
@@ -10,24 +9,22 @@ use Rattle.power.specs.declared.state.PartState.TheVariants as state
 use Rattle.power.specs.declared.state.Wanted.{Wanted}
 use Rattle.power.specs.declared.state.Wanted.TheVariants as wanted
 use Rattle.power.specs.declared.Keeper.{Keeper}
-use Rattle.power.specs.Board.{Board, Need, Part, Wish, None', Asked, Granted, Lost, Off, On, is_on, is_asked, is_lost, count, losses, level_of, put, granted, and_also, lean, young, lost_of, hangs, fallen, MayFall}
+use Rattle.power.specs.Board.{Board, Need, Part, Wish, None', Asked, Granted, Lost, Off, is_asked, is_lost, count, losses, level_of, put, granted, and_also, lean, young, lost_of, hangs, MayFall}
 use Rattle.power.specs.Sound.{Sound}
 use Rattle.power.specs.Least.{lv}
-use Rattle.power.specs.Tables.{at}
 use Rattle.power.specs.Moves.{OnlyParts}
 use Rattle.power.specs.Mirrors.{part_of, TriedIs, Knows, Says, wanted_by}
 use Rattle.power.specs.Ages.{Bears}
 use Rattle.power.specs.Turns.{AimsAt, AimsFor}
 use Rattle.power.specs.Falls.{noticed, lost_by}
-use Rattle.power.specs.Kept.{Mirrors, Kept, NobodyLost, Ready}
+use Rattle.power.specs.Kept.{Kept, NobodyLost, Ready}
 use Rattle.power.proofs.Tests.{every_at}
 use Rattle.power.proofs.Puts.{put_here, put_other, set_each}
-use Rattle.power.proofs.OneWish.{lost_granted, lost_asked}
 use Rattle.power.proofs.OnePart.{off_level, on_off}
 use Rattle.power.proofs.Larger.{granted_at, granted_le}
 use Rattle.power.proofs.Lowest.{can_less, least_is_least}
 use Rattle.power.proofs.SoundLevels.{granted_least, level_range}
-use Rattle.power.proofs.AimsKept.{also_fewer, aims_only, aims_for}
+use Rattle.power.proofs.AimsKept.{also_fewer, aims_only}
 use Rattle.power.proofs.Losses.{count_top}
 use Rattle.power.proofs.Ages.{aged_young, bears_fallen}
 use Rattle.power.proofs.Hanging.{others_keep}

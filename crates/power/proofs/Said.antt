@@ -1,7 +1,7 @@
 -- What the keeper's wishes say of the board's: after a call, a telling, a tick; and who waits. Assumes nothing.
 use Rattle.std.proofs.Common.{◌≡◌, ℕ, ◌+◌, ◌<◌, true, false, not, T, ◌≢◌, length, set, replicate, sym, refl, ap, subst, arith}
 use lib.Dec.{not_T}
-use Rattle.power.specs.Board.{Board, Wish, Asked, Granted, is_asked, is_none, put, told_of, older, ticked, AtStart}
+use Rattle.power.specs.Board.{Board, Wish, is_asked, is_none, put, told_of, older, ticked, AtStart}
 use Rattle.power.specs.Mirrors.{Says, SaysAll, Waits, wanted_by}
 use Rattle.power.specs.Rota.{NobodyWaits}
 use Rattle.power.specs.declared.Answer.TheVariants.{Done, No}

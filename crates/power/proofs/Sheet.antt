@@ -1,7 +1,7 @@
 -- The data sheet's tests as plain facts, in the words of the trait: served, suits, needed, keeps. Assumes nothing.
 use Rattle.std.proofs.Common.{◌≡◌, ℕ, ◌<◌, ◌≤◌, Bool, true, false, not, ◌&&◌, ◌||◌, T, eqb, leb, List, length, sym, refl, ap, ◌∙◌, subst, inl, inr, le→leb, eqb→eq, leb→le, T_not}
 use lib.Dec.{not_T, eqb_refl}
-use Rattle.power.specs.Board.{needs_now, Board, Need, Part, Wish, None', Asked, Granted, Lost, on_of, least_of, most_of, is_off, is_on, level_of, all, served, suits, needed, keeps, granted_over}
+use Rattle.power.specs.Board.{Board, Need, Part, Wish, None', Asked, Granted, Lost, on_of, least_of, most_of, is_off, is_on, level_of, all, served, suits, needed, keeps, granted_over}
 use Rattle.power.specs.Sound.{Has}
 use Rattle.power.proofs.Tests.{and_l, and_r, and_i, or_i, or_not, way, every_at, every_of, none_of, none_at, all_at, all_of}
 
@@ -45,11 +45,11 @@ suits_one : ℕ → ℕ → ℕ → ℕ → (ℕ → ℕ) → ℕ → Bool
 suits_one y v s o ls m = not (eqb o y) || (leb (ls s) v && leb v m)
 
 pub suits_at : (b : Board) (y v : ℕ) → T (suits b y v) →
-    (x k : ℕ) → x < b.parts → T (not (is_off (b.part x))) → k < length (needs_now b x) → on_of k (needs_now b x) ≡ y →
-    (least_of k (level_of (b.part x)) (needs_now b x) ≤ v) × (v ≤ most_of k (needs_now b x))
+    (x k : ℕ) → x < b.parts → T (not (is_off (b.part x))) → k < length (b.needs x) → on_of k (b.needs x) ≡ y →
+    (least_of k (level_of (b.part x)) (b.needs x) ≤ v) × (v ≤ most_of k (b.needs x))
 unfolding suits_one
 suits_at b y v t x k h off h' e =
-    let ns = needs_now b x in
+    let ns = b.needs x in
     let o = on_of k ns in
     let s = level_of (b.part x) in
     let B = leb (least_of k s ns) v in
@@ -60,14 +60,14 @@ suits_at b y v t x k h off h' e =
     (leb→le (least_of k s ns) v (and_l B C q), leb→le v (most_of k ns) (and_r B C q))
 
 pub suits_of : (b : Board) (y v : ℕ) →
-    ((x k : ℕ) → x < b.parts → T (not (is_off (b.part x))) → k < length (needs_now b x) → on_of k (needs_now b x) ≡ y →
-    (least_of k (level_of (b.part x)) (needs_now b x) ≤ v) × (v ≤ most_of k (needs_now b x))) →
+    ((x k : ℕ) → x < b.parts → T (not (is_off (b.part x))) → k < length (b.needs x) → on_of k (b.needs x) ≡ y →
+    (least_of k (level_of (b.part x)) (b.needs x) ≤ v) × (v ≤ most_of k (b.needs x))) →
     T (suits b y v)
 unfolding suits_one
 suits_of b y v g =
     every_of b.parts _ (λ x h. or_i (is_off (b.part x)) _ (λ off.
-    all_of (suits_one y v (level_of (b.part x))) (needs_now b x) (λ k h'.
-    let ns = needs_now b x in
+    all_of (suits_one y v (level_of (b.part x))) (b.needs x) (λ k h'.
+    let ns = b.needs x in
     let o = on_of k ns in
     let s = level_of (b.part x) in
     let B = leb (least_of k s ns) v in
@@ -81,10 +81,10 @@ needs_one : ℕ → ℕ → (ℕ → ℕ) → ℕ → Bool
 needs_one y o ls m = not (eqb o y)
 
 pub unneeded_at : (b : Board) (y : ℕ) → T (not (needed b y)) →
-    (x k : ℕ) → x < b.parts → T (not (is_off (b.part x))) → k < length (needs_now b x) → on_of k (needs_now b x) ≡ y → ⊥
+    (x k : ℕ) → x < b.parts → T (not (is_off (b.part x))) → k < length (b.needs x) → on_of k (b.needs x) ≡ y → ⊥
 unfolding needs_one
 unneeded_at b y t x k h off h' e =
-    let ns = needs_now b x in
+    let ns = b.needs x in
     let o = on_of k ns in
     let N = all (λ (n : Need). not (eqb n.on y)) ns in
     elim (way N) [
@@ -93,12 +93,12 @@ unneeded_at b y t x k h off h' e =
     ]
 
 pub unneeded_of : (b : Board) (y : ℕ) →
-    ((x k : ℕ) → x < b.parts → T (not (is_off (b.part x))) → k < length (needs_now b x) → on_of k (needs_now b x) ≡ y → ⊥) →
+    ((x k : ℕ) → x < b.parts → T (not (is_off (b.part x))) → k < length (b.needs x) → on_of k (b.needs x) ≡ y → ⊥) →
     T (not (needed b y))
 unfolding needs_one
 unneeded_of b y g =
     none_of b.parts _ (λ x h.
-    let ns = needs_now b x in
+    let ns = b.needs x in
     let N = all (λ (n : Need). not (eqb n.on y)) ns in
     let F = not (is_off (b.part x)) in
     not_T (F && not N) (λ q.

@@ -1,8 +1,8 @@
 -- What the mirror shows of the parts: read, after a step, after a telling. Assumes nothing.
-use Rattle.std.proofs.Common.{◌≡◌, ℕ, zero, suc, ◌+◌, ◌<◌, Bool, true, false, cond, not, T, ltb, ◌≢◌, List, length, get_or, set, replicate, sym, refl, ap, ◌∙◌, subst, inl, inr, arith}
+use Rattle.std.proofs.Common.{◌≡◌, ℕ, zero, suc, ◌+◌, ◌<◌, Bool, true, false, cond, not, T, ltb, ◌≢◌, length, get_or, set, replicate, sym, refl, ap, ◌∙◌, subst, inl, inr, arith}
 use Rattle.std.proofs.lemmas.Bool.{cases_lt, cond-true, cond-false, lt-ltb, eq-eqb, ne_eqb}
 use Rattle.std.proofs.lemmas.List.{get_or_past}
-use Rattle.power.specs.Board.{Board, Part, Off, Rising, On, is_off, level_of, put, with_parts, Tries, good, not_yet, told, is_six, ticked, AtStart, going}
+use Rattle.power.specs.Board.{Board, Part, On, is_off, level_of, put, with_parts, Tries, good, not_yet, told, is_six, ticked, AtStart}
 use Rattle.power.specs.Mirrors.{part_of, TriedIs, state_at, Shows, Anew}
 use Rattle.power.specs.declared.Answer.{Answer}
 use Rattle.power.specs.declared.Answer.TheVariants.{Done, No}
@@ -10,9 +10,7 @@ use Rattle.power.specs.declared.state.PartState.{PartState}
 use Rattle.power.specs.declared.state.PartState.TheVariants as state
 use Rattle.power.specs.declared.state.Tried.{Tried}
 use Rattle.power.specs.declared.state.Mirror.{Mirror}
-use Rattle.power.specs.declared.types.Sides.{Sides}
-use Rattle.power.specs.Tables.{side_at}
-use Rattle.power.proofs.Puts.{put_here, put_other, set_each}
+use Rattle.power.proofs.Puts.{set_each}
 
 -- READ
 pub part_shown : (m : Mirror) (b : Board) (x : ℕ) (s : PartState) → Shows m b → s ≡ state_at m x → b.part x ≡ part_of s
@@ -105,15 +103,3 @@ shows_start m b e s =
       part = λ x. (s.2 x).0 ∙ sym (ap part_of (ap (λ xs. get_or xs x state.Off) e ∙ get_d_same 64 state.Off x));
       tried = λ x. rw (e, get_d_same 64 state.Off x) tt;
     }
-
--- SIDES: other sides change no part; one side is set; at first all are the first
-pub shows_going : (m : Mirror) (b : Board) (c : ℕ → Bool) → Shows m b → Shows m (going c b)
-shows_going m b c h = record { part = h.part; tried = h.tried }
-
-pub sides_put : (s s' : Sides) (f : ℕ → Bool) (x : ℕ) (c : Bool) → x < 64 → s'.of ≡ set s.of x c → ((z : ℕ) → side_at s z ≡ f z) → (z : ℕ) → side_at s' z ≡ put x c f z
-sides_put s s' f x c lt e all =
-    let long : x < length s.of = omega (arith, s.long) in
-    rw e (set_each (λ (a q : Bool). a ≡ q) false s.of f (put x c f) x c long all (sym (put_here x c f)) (put_other x c f))
-
-pub first_sides : (s : Sides) → s.of ≡ replicate 64 false → (x : ℕ) → side_at s x ≡ false
-first_sides s e x = ap (λ (l : List Bool). get_or l x false) e ∙ get_d_same 64 false x

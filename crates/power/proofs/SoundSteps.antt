@@ -2,11 +2,11 @@
 use Rattle.std.proofs.Common.{◌≡◌, ℕ, ◌<◌, ◌≤◌, Bool, not, T, ◌≢◌, List, length, sym, ap, ◌∙◌, subst, subst₂, inl, inr, arith, T_not}
 use lib.Dec.{not_T}
 use Rattle.std.proofs.lemmas.Bool.{cases_eq}
-use Rattle.power.specs.Board.{needs_now, Board, Need, Part, Off, Rising, On, Granted, on_of, least_of, most_of, is_off, is_on, is_rising, level_of, put, drawn, with_parts, MayRaise, MayLower, MayLevel, Tries, good, not_yet, raised, lowered, levelled, needs_on, going, served}
+use Rattle.power.specs.Board.{Board, Need, Part, Off, Rising, On, Granted, on_of, least_of, most_of, is_off, is_on, is_rising, level_of, put, drawn, with_parts, MayRaise, MayLower, MayLevel, Tries, good, not_yet, raised, lowered, levelled}
 use Rattle.power.specs.Sound.{Has, Sound, StepsKeepSound}
-use Rattle.power.proofs.Plans.{plan_now}
-use Rattle.power.proofs.Puts.{put_same, put_here, put_other, put_each}
-use Rattle.power.proofs.Draws.{draws_put_now}
+use Rattle.power.proofs.Plans.{plan_at}
+use Rattle.power.proofs.Puts.{put_same, put_other, put_each}
+use Rattle.power.proofs.Draws.{draws_put}
 use Rattle.power.proofs.SoundLevels.{level_top}
 use Rattle.power.proofs.OnePart.{off_on, rising_on, rising_off, rising_level}
 use Rattle.power.proofs.Sheet.{served_at, suits_at, unneeded_at, keeps_at}
@@ -23,22 +23,22 @@ has_move ns k q q' l l' e d h = subst₂ (HasBy ns k) e d h
 
 -- Only the part x changes, to p. It has what it needs, and is enough for those that need it and those that were granted it.
 module _ (b : Board) (s : Sound b) (x : ℕ) (p : Part) (t : ℕ → ℕ)
-    (own : T (not (is_off p)) → (k : ℕ) → k < length (needs_now b x) → Has b.part (needs_now b x) k (level_of p))
-    (users : (y k : ℕ) → y < b.parts → T (not (is_off (b.part y))) → k < length (needs_now b y) → on_of k (needs_now b y) ≡ x →
-    T (is_on p) × (least_of k (level_of (b.part y)) (needs_now b y) ≤ level_of p) × (level_of p ≤ most_of k (needs_now b y)))
+    (own : T (not (is_off p)) → (k : ℕ) → k < length (b.needs x) → Has b.part (b.needs x) k (level_of p))
+    (users : (y k : ℕ) → y < b.parts → T (not (is_off (b.part y))) → k < length (b.needs y) → on_of k (b.needs y) ≡ x →
+    T (is_on p) × (least_of k (level_of (b.part y)) (b.needs y) ≤ level_of p) × (level_of p ≤ most_of k (b.needs y)))
     (within : (l : ℕ) → p ≡ On l → (1 ≤ l) × (l ≤ 15))
     (held : (u l : ℕ) → u < 32 → b.wish u ≡ Granted x l → T (is_on p) × (l ≤ level_of p))
     (given : drawn b (put x p b.part) ≤ b.gives)
     (free : x < b.parts → T (b.hit x) → T (is_off p)) where
-  has' : (y k : ℕ) → y < b.parts → T (not (is_off (put x p b.part y))) → k < length (needs_now b y) → Has (put x p b.part) (needs_now b y) k (level_of (put x p b.part y))
+  has' : (y k : ℕ) → y < b.parts → T (not (is_off (put x p b.part y))) → k < length (b.needs y) → Has (put x p b.part) (b.needs y) k (level_of (put x p b.part y))
   has' y k hy off hk =
       let f = b.part in
-      let ns = needs_now b y in
+      let ns = b.needs y in
       let o = on_of k ns in
-      let g = plan_now b s.plan y hy k hk in
+      let g = plan_at b s.plan y hy k hk in
       elim (cases_eq y x) [
         | inl e ↦
-            let P : ℕ → Type 0 = λ z. (j : ℕ) → j < length (needs_now b z) → Has b.part (needs_now b z) j (level_of p) in
+            let P : ℕ → Type 0 = λ z. (j : ℕ) → j < length (b.needs z) → Has b.part (b.needs z) j (level_of p) in
             let off' : T (not (is_off p)) = subst (λ (q : Part). T (not (is_off q))) (put_same x p f y e) off in
             let h = subst P (sym e) (own off') k hk in
             let ne : o ≢ x = λ d. omega (arith, g.below) in
@@ -76,33 +76,16 @@ unhit_not_off b s x hx off = not_T (b.hit x) (λ t. T_not (is_off (b.part x)) of
 
 -- nothing that isn't off needs a part that isn't on
 unneeded : (b : Board) → Sound b → (x : ℕ) → (T (is_on (b.part x)) → ⊥) →
-    (y k : ℕ) → y < b.parts → T (not (is_off (b.part y))) → k < length (needs_now b y) → on_of k (needs_now b y) ≡ x → ⊥
+    (y k : ℕ) → y < b.parts → T (not (is_off (b.part y))) → k < length (b.needs y) → on_of k (b.needs y) ≡ x → ⊥
 unneeded b s x isnt y k hy off hk e = isnt (subst (λ (z : ℕ). T (is_on (b.part z))) e (s.has y k hy off hk).0)
 
--- the side of a part that is off may be another
-sound_going : (b : Board) → Sound b → (x : ℕ) (c : Bool) → T (is_off (b.part x)) → Sound (going (put x c b.choice) b)
-sound_going b s x c o =
-    record {
-      plan = s.plan;
-      has = λ y k hy off.
-          let ne : y ≢ x = λ e. T_not (is_off (b.part y)) off (subst (λ (z : ℕ). T (is_off (b.part z))) (sym e) o) in
-          subst (λ (d : Bool). k < length (needs_on b y d) → Has b.part (needs_on b y d) k (level_of (b.part y))) (sym (put_other x c b.choice y ne)) (s.has y k hy off);
-      range = s.range;
-      draws = s.draws;
-      asks = s.asks;
-      holds = s.holds;
-      clear = s.clear;
-    }
-
-pub sound_raised : (b : Board) → Sound b → (x : ℕ) (c : Bool) → MayRaise b x c → Sound (raised x c b)
+pub sound_raised : (b : Board) → Sound b → (x : ℕ) → MayRaise b x → Sound (raised x b)
 unfolding is_off is_on level_of
-sound_raised b s x c m =
+sound_raised b s x m =
     let isnt : T (is_on (b.part x)) → ⊥ = off_on (b.part x) m.2 in
-    let b' = going (put x c b.choice) b in
-    let s' = sound_going b s x c m.2 in
-    sound_put b' s' x Rising (put x 0 b.tried)
-    (λ _ k h. served_at b.part (needs_now b' x) 1 (subst (λ (d : Bool). T (served b.part (needs_on b x d) 1)) (sym (put_here x c b.choice)) m.3) k h)
-    (λ y k hy off hk e. absurd (unneeded b' s' x isnt y k hy off hk e))
+    sound_put b s x Rising (put x 0 b.tried)
+    (λ _ k h. served_at b.part (b.needs x) 1 m.3 k h)
+    (λ y k hy off hk e. absurd (unneeded b s x isnt y k hy off hk e))
     (λ l e. absurd (subst (λ (q : Part). T (is_on q)) (sym e) tt))
     (λ u l hu e. absurd (isnt (s.holds u x l hu e).2))
     m.4
@@ -110,14 +93,14 @@ sound_raised b s x c m =
 
 -- what's drawn with a part no higher than it was
 pub draws_lower : (b : Board) → Sound b → (x : ℕ) (p : Part) → level_of p ≤ level_of (b.part x) → drawn b (put x p b.part) ≤ b.gives
-draws_lower b s x p h = draws_put_now b (λ z. level_of (b.part z)) s.plan (level_top b s) s.draws (λ z _. omega arith) x p h
+draws_lower b s x p h = draws_put b (λ z. level_of (b.part z)) s.plan (level_top b s) s.draws (λ z _. omega arith) x p h
 
 sound_good : (b : Board) → Sound b → (x : ℕ) → x < b.parts → T (is_rising (b.part x)) → Sound (with_parts (put x (On 1) b.part) b.tried b)
 unfolding is_off is_on level_of
 sound_good b s x hx r =
     let isnt : T (is_on (b.part x)) → ⊥ = rising_on (b.part x) r in
     sound_put b s x (On 1) b.tried
-    (λ _ k h. subst (λ (l : ℕ). Has b.part (needs_now b x) k l) (rising_level (b.part x) r) (s.has x k hx (rising_off (b.part x) r) h))
+    (λ _ k h. subst (λ (l : ℕ). Has b.part (b.needs x) k l) (rising_level (b.part x) r) (s.has x k hx (rising_off (b.part x) r) h))
     (λ y k hy off hk e. absurd (unneeded b s x isnt y k hy off hk e))
     (λ l e. let d : 1 ≡ l = ap level_of e in (omega arith, omega arith))
     (λ u l hu e. absurd (isnt (s.holds u x l hu e).2))
@@ -143,7 +126,7 @@ pub sound_levelled : (b : Board) → Sound b → (x v : ℕ) → MayLevel b x v 
 unfolding is_off is_on level_of
 sound_levelled b s x v m =
     sound_put b s x (On v) b.tried
-    (λ _ k h. served_at b.part (needs_now b x) v m.6 k h)
+    (λ _ k h. served_at b.part (b.needs x) v m.6 k h)
     (λ y k hy off hk e. let r = suits_at b x v m.7 y k hy off hk e in (tt, r.0, r.1))
     (λ l e. let d : v ≡ l = ap level_of e in (omega (arith, m.3), omega (arith, m.4)))
     (λ u l hu e. (tt, keeps_at b x v m.8 u l hu e))

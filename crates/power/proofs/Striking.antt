@@ -1,15 +1,15 @@
 -- A part fell: the board is sound but for what hangs on it, what hangs on it may be lowered from the last part to the first, and is sound then. Assumes nothing.
-use Rattle.std.proofs.Common.{◌≡◌, ℕ, ◌+◌, ◌<◌, ◌≤◌, Bool, true, false, cond, not, ◌||◌, T, eqb, ◌≢◌, List, length, sym, refl, ap, ◌∙◌, subst, subst₂, inl, inr, arith, T_not}
+use Rattle.std.proofs.Common.{◌≡◌, ℕ, ◌+◌, ◌<◌, ◌≤◌, Bool, true, false, cond, not, T, eqb, ◌≢◌, length, sym, refl, ap, subst, inl, inr, arith, T_not}
 use lib.Dec.{not_T}
 use Rattle.std.proofs.lemmas.Bool.{cases_eq}
-use Rattle.power.specs.Board.{needs_now, Board, Need, Part, Wish, None', Asked, Granted, Lost, Off, On, on_of, is_off, is_on, level_of, put, good_plan, lost_of, some_on, hangs, fallen, MayFall, MayLower, lowered}
+use Rattle.power.specs.Board.{Board, Part, Wish, None', Asked, Granted, Lost, Off, On, on_of, is_off, is_on, level_of, put, good_plan, lost_of, hangs, MayFall, MayLower, lowered}
 use Rattle.power.specs.Sound.{Has, Sound}
 use Rattle.power.specs.Falls.{noticed, Struck}
-use Rattle.power.proofs.Tests.{or_l, or_r, way}
+use Rattle.power.proofs.Tests.{or_l, or_r}
 use Rattle.power.proofs.Sheet.{eq→eqb, unneeded_of, keeps_of}
-use Rattle.power.proofs.Puts.{put_same, put_other, put_each}
-use Rattle.power.proofs.Plans.{plan_now}
-use Rattle.power.proofs.Draws.{draws_put_now}
+use Rattle.power.proofs.Puts.{put_other, put_each}
+use Rattle.power.proofs.Plans.{plan_at}
+use Rattle.power.proofs.Draws.{draws_put}
 use Rattle.power.proofs.SoundLevels.{part_top}
 use Rattle.power.proofs.SoundSteps.{has_move, draws_lower}
 use Rattle.power.proofs.OneWish.{lost_asked}
@@ -19,12 +19,12 @@ use Rattle.power.proofs.Hanging.{some_on_at, hangs_is, others_keep}
 pub hangs_itself : (b : Board) (f : ℕ) → T (good_plan b) → f < b.parts → T (hangs b f f)
 hangs_itself b f g h = subst T (sym (hangs_is b f f g h)) (or_l (eqb f f) _ (eq→eqb f f refl))
 
-hangs_up : (b : Board) (f x k : ℕ) → T (good_plan b) → x < b.parts → k < length (needs_now b x) → T (hangs b f (on_of k (needs_now b x))) → T (hangs b f x)
-hangs_up b f x k g h i t = subst T (sym (hangs_is b f x g h)) (or_r (eqb x f) _ (some_on_at (hangs b f) (needs_now b x) k i t))
+hangs_up : (b : Board) (f x k : ℕ) → T (good_plan b) → x < b.parts → k < length (b.needs x) → T (hangs b f (on_of k (b.needs x))) → T (hangs b f x)
+hangs_up b f x k g h i t = subst T (sym (hangs_is b f x g h)) (or_r (eqb x f) _ (some_on_at (hangs b f) (b.needs x) k i t))
 
 -- so what x needs doesn't hang on f if x doesn't
-hangs_down : (b : Board) (f x k : ℕ) → T (good_plan b) → x < b.parts → k < length (needs_now b x) → T (not (hangs b f x)) → T (not (hangs b f (on_of k (needs_now b x))))
-hangs_down b f x k g h i n = not_T (hangs b f (on_of k (needs_now b x))) (λ t. T_not (hangs b f x) n (hangs_up b f x k g h i t))
+hangs_down : (b : Board) (f x k : ℕ) → T (good_plan b) → x < b.parts → k < length (b.needs x) → T (not (hangs b f x)) → T (not (hangs b f (on_of k (b.needs x))))
+hangs_down b f x k g h i n = not_T (hangs b f (on_of k (b.needs x))) (λ t. T_not (hangs b f x) n (hangs_up b f x k g h i t))
 
 -- a part that doesn't hang on f isn't one that does
 apart : (b : Board) (f x y : ℕ) → T (hangs b f x) → T (not (hangs b f y)) → y ≢ x
@@ -36,13 +36,13 @@ module _ (b : Board) (f x : ℕ) (g : T (good_plan b)) (t : T (hangs b f x)) whe
   same_part y n = put_other x Off b.part y (apart b f x y t n)
 
   has_off :
-      (y k : ℕ) → y < b.parts → T (not (hangs b f y)) → T (not (is_off (put x Off b.part y))) → k < length (needs_now b y) →
-      (T (not (is_off (b.part y))) → Has b.part (needs_now b y) k (level_of (b.part y))) → Has (put x Off b.part) (needs_now b y) k (level_of (put x Off b.part y))
+      (y k : ℕ) → y < b.parts → T (not (hangs b f y)) → T (not (is_off (put x Off b.part y))) → k < length (b.needs y) →
+      (T (not (is_off (b.part y))) → Has b.part (b.needs y) k (level_of (b.part y))) → Has (put x Off b.part) (b.needs y) k (level_of (put x Off b.part y))
   has_off y k hy n off hk has =
-      let o = on_of k (needs_now b y) in
+      let o = on_of k (b.needs y) in
       let ey = same_part y n in
       let eo = same_part o (hangs_down b f y k g hy hk n) in
-      has_move (needs_now b y) k (b.part o) (put x Off b.part o) (level_of (b.part y)) (level_of (put x Off b.part y)) (sym eo) (ap level_of (sym ey))
+      has_move (b.needs y) k (b.part o) (put x Off b.part o) (level_of (b.part y)) (level_of (put x Off b.part y)) (sym eo) (ap level_of (sym ey))
       (has (subst (λ (q : Part). T (not (is_off q))) ey off))
 
   holds_off : (y l : ℕ) → T (not (hangs b f y)) → T (is_on (b.part y)) → l ≤ level_of (b.part y) → T (is_on (put x Off b.part y)) × (l ≤ level_of (put x Off b.part y))
@@ -95,7 +95,7 @@ module _ (b : Board) (f x : ℕ) (s : Struck b f (x + 1)) (hx : x < b.parts) (t 
     on,
     unneeded_of b x (λ y k hy up hk e.
         let ty = hangs_up b f y k s.plan hy hk (subst (λ (z : ℕ). T (hangs b f z)) (sym e) t) in
-        let below = (plan_now b s.plan y hy k hk).below in
+        let below = (plan_at b s.plan y hy k hk).below in
         T_not (is_off (b.part y)) up (s.off y (omega arith) hy ty)),
     keeps_of b x 0 (λ u l hu e. absurd (T_not (hangs b f x) (s.holds u x l hu e).4 t)),
   )
@@ -107,7 +107,7 @@ module _ (b : Board) (f x : ℕ) (s : Struck b f (x + 1)) (hx : x < b.parts) (t 
         plan = s.plan;
         has = λ y k hy n off hk. has_off b f x s.plan t y k hy n off hk (λ on. s.has y k hy n on hk);
         range = range_off b.part b.parts x s.range;
-        draws = draws_put_now b (λ z. level_of (b.part z)) s.plan (λ z hz. part_top (b.part z) (λ l e. s.range z l hz e)) s.draws (λ z _. omega arith) x Off (omega arith);
+        draws = draws_put b (λ z. level_of (b.part z)) s.plan (λ z hz. part_top (b.part z) (λ l e. s.range z l hz e)) s.draws (λ z _. omega arith) x Off (omega arith);
         asks = s.asks;
         holds = λ u y l hu e. let h = s.holds u y l hu e in let p = holds_off b f x s.plan t y l h.4 h.2 h.3 in (h.0, h.1, p.0, p.1, h.4);
         hit = s.hit;

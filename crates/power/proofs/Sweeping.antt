@@ -2,8 +2,8 @@
 use Rattle.std.proofs.Common.{◌≡◌, ℕ, zero, suc, ◌+◌, ◌<◌, ◌≤◌, not, T, length, get_or, replicate, refl, ap, ◌∙◌, inl, inr, le_antisymm, arith}
 use lib.Dec.{not_T}
 use Rattle.std.proofs.lemmas.Bool.{cases_eq, cases_lt}
-use Rattle.power.specs.Board.{Board, on_of, least_of}
-use Rattle.power.specs.Least.{lv, can_fit, plain_plan}
+use Rattle.power.specs.Board.{Board, on_of, least_of, good_plan, can_be}
+use Rattle.power.specs.Least.{lv}
 use Rattle.power.specs.Found.{Pushed, AsksTooMuch}
 use Rattle.power.proofs.Plans.{plan_at}
 use Rattle.power.proofs.Lowest.{least_wanted, least_asked, least_le, least_past, least_fifteen}
@@ -31,7 +31,7 @@ sweeping_none b want f n e w z =
     }
 
 -- a turn at p, from levels f; with all that it needs pushed they're `to`
-module _ (b : Board) (want f : ℕ → ℕ) (g : T (plain_plan b)) (y p : ℕ) (e : y ≡ p + 1) (h : p < b.parts) (s : Sweeping b want f y) where
+module _ (b : Board) (want f : ℕ → ℕ) (g : T (good_plan b)) (y p : ℕ) (e : y ≡ p + 1) (h : p < b.parts) (s : Sweeping b want f y) where
   -- p is at the least
   here_is : f p ≡ lv b want p
   here_is = le_antisymm (s.under p) (least_le b want p (f p) h (s.wanted p h) (λ x k l i q j o. omega (arith, s.asks x k (omega arith) i j, ap f o)))
@@ -67,14 +67,14 @@ module _ (b : Board) (want f : ℕ → ℕ) (g : T (plain_plan b)) (y p : ℕ) (
       asked : (k : ℕ) → k < length (b.needs p) → least_of k (lv b want p) (b.needs p) ≤ to (on_of k (b.needs p))
       asked k j = omega (arith, q.asks k j, ap (λ (m : ℕ). least_of k m (b.needs p)) (el ∙ here_is))
 
-  pub too_high : (l : ℕ) → l ≡ f p → 15 < l → T (not (can_fit b want))
-  too_high l el hi = not_T (can_fit b want) (λ c. omega (arith, here_is, least_fifteen b want c p))
+  pub too_high : (l : ℕ) → l ≡ f p → 15 < l → T (not (can_be b want))
+  too_high l el hi = not_T (can_be b want) (λ c. omega (arith, here_is, least_fifteen b want c p))
 
   -- what it needs is above 15, so that can't be
-  pub asks_too_high : (l : ℕ) → l ≡ f p → AsksTooMuch (b.needs p) l → T (not (can_fit b want))
+  pub asks_too_high : (l : ℕ) → l ≡ f p → AsksTooMuch (b.needs p) l → T (not (can_be b want))
   asks_too_high l el t =
       let k = t.which in
-      not_T (can_fit b want)
+      not_T (can_be b want)
       (λ c. omega (arith, t.high, ap (λ (m : ℕ). least_of k m (b.needs p)) (el ∙ here_is), least_asked b want g p k h t.some, least_fifteen b want c (on_of k (b.needs p))))
 
   -- at 0 it needs nothing

@@ -1,20 +1,13 @@
 -- A ceiling and a goal go on being what to aim at: after a walk, a tick, and a call of anybody. Assumes nothing.
-use Rattle.std.proofs.Common.{◌≡◌, ℕ, ◌<◌, ◌≤◌, Bool, not, T, List, ◌++◌, length, get_or, sym, ap, ◌∙◌, subst, arith}
-use Rattle.power.specs.Board.{Board, Need, Wish, Granted, on_of, least_of, most_of, total, drawn_at, with_wish, ticked, Either, taken, needs_by}
+use Rattle.std.proofs.Common.{◌≡◌, ℕ, ◌<◌, ◌≤◌, Bool, not, T, List, length, get_or, sym, ap, ◌∙◌, subst, arith}
+use Rattle.power.specs.Board.{Board, Need, Wish, Granted, on_of, least_of, most_of, total, drawn_at, with_wish, ticked}
 use Rattle.power.specs.Aim.{Fits}
-use Rattle.power.specs.Least.{settled}
-use Rattle.power.specs.Walk.{Unhit, FitsNow, GoesAsMade}
+use Rattle.power.specs.Walk.{Unhit}
 use Rattle.power.specs.Moves.{OnlyParts, Targets}
-use Rattle.power.proofs.NextStep.{as_made_needs}
 use Rattle.power.proofs.Puts.{put_each}
 use Rattle.power.proofs.OneWish.{older_granted}
 
--- they ask only of the plan, by the choice that was made, and of what was granted
-pub needs_only : (b b' : Board) → OnlyParts b b' → needs_by b' b'.made ≡ needs_by b b.made
-needs_only b b' o =
-    let N : (ℕ → Either) → (ℕ → List Need) → (ℕ → Bool) → ℕ → List Need = λ e ns c x. taken (c x) (e x) ++ ns x in
-    ap (λ (e : ℕ → Either). N e b'.needs b'.made) o.either ∙ ap (λ (ns : ℕ → List Need). N b.either ns b'.made) o.needs ∙ ap (λ (c : ℕ → Bool). N b.either b.needs c) o.made
-
+-- they ask only of the plan, and of what was granted
 drawn_only : (b b' : Board) (t : ℕ → ℕ) → OnlyParts b b' → drawn_at b t ≤ b.gives → drawn_at b' t ≤ b'.gives
 drawn_only b b' t o h =
     let D : ℕ → (ℕ → List ℕ) → ℕ = λ n ds. total n (λ x. get_or (ds x) (t x) 0) in
@@ -22,26 +15,14 @@ drawn_only b b' t o h =
     let q : D b.parts b'.draws ≡ drawn_at b t = ap (λ (ds : ℕ → List ℕ). D b.parts ds) o.draws in
     omega (arith, p ∙ q, o.gives)
 
-pub fits_only : (b b' : Board) (t : ℕ → ℕ) → OnlyParts b b' → Fits (settled b.made b) t → Fits (settled b'.made b') t
+pub fits_only : (b b' : Board) (t : ℕ → ℕ) → OnlyParts b b' → Fits b t → Fits b' t
 fits_only b b' t o f =
     record {
       fifteen = λ x hx. f.fifteen x (omega (arith, o.parts));
       meets = subst (λ (ns : ℕ → List Need). (x k : ℕ) → x < b'.parts → 0 < t x → k < length (ns x) → (least_of k (t x) (ns x) ≤ t (on_of k (ns x))) × (t (on_of k (ns x)) ≤ most_of k (ns x)))
-          (sym (needs_only b b' o)) (λ x k hx. f.meets x k (omega (arith, o.parts)));
+          (sym o.needs) (λ x k hx. f.meets x k (omega (arith, o.parts)));
       draws = drawn_only b b' t o f.draws;
     }
-
--- what fits by the choice that was made fits where parts go by it; what fits by the sides that are fixed, does
-pub fits_now : (b : Board) (t : ℕ → ℕ) → GoesAsMade b → Fits (settled b.made b) t → FitsNow b t
-fits_now b t g f =
-    record {
-      fifteen = f.fifteen;
-      meets = λ x k hx off p.
-          subst (λ (ns : List Need). k < length ns → least_of k (t x) ns ≤ t (on_of k ns)) (sym (as_made_needs b g x hx off)) (λ i. (f.meets x k hx p i).0);
-    }
-
-pub fits_fixed : (b : Board) (t : ℕ → ℕ) → Fits (settled b.choice b) t → FitsNow b t
-fits_fixed b t f = record { fifteen = f.fifteen; meets = λ x k hx off p i. (f.meets x k hx p i).0 }
 
 pub unhit_only : (b b' : Board) → OnlyParts b b' → Unhit b → Unhit b'
 unhit_only b b' o n x hx = subst (λ (h : ℕ → Bool). T (not (h x))) (sym o.hit) (n x (omega (arith, o.parts)))
@@ -52,7 +33,7 @@ targets_only b b' t l o a =
       fits = fits_only b b' t o a.fits;
       covers = subst (λ (w : ℕ → Wish). (u x l : ℕ) → u < 32 → w u ≡ Granted x l → l ≤ t x) (sym o.wish) a.covers;
       serves = subst (λ (ns : ℕ → List Need). (x k : ℕ) → x < b'.parts → 0 < l x → k < length (ns x) → least_of k (l x) (ns x) ≤ l (on_of k (ns x)))
-          (sym (needs_only b b' o)) (λ x k hx. a.serves x k (omega (arith, o.parts)));
+          (sym o.needs) (λ x k hx. a.serves x k (omega (arith, o.parts)));
       under = λ z hz. a.under z (omega (arith, o.parts));
     }
 

@@ -2,7 +2,7 @@
 -- A test of each need is stated by index, in the words of the trait `Parts`. Assumes nothing.
 use Rattle.std.proofs.Common.{◌≡◌, ℕ, zero, suc, ◌<◌, Bool, true, false, not, ◌&&◌, ◌||◌, T, ◌⊎◌, List, [], ◌∷◌, length, refl, subst, inl, inr, le_of_suc-le-suc, not-suc-le-zero, arith, T_not}
 use Rattle.std.proofs.lemmas.Bool.{cases_lt}
-use Rattle.power.specs.Board.{Need, on_of, least_of, most_of, every, some', all, least_at, alike}
+use Rattle.power.specs.Board.{Need, on_of, least_of, most_of, every, some', all, least_at}
 
 pub and_l : (x y : Bool) → T (x && y) → T x
 and_l true y t = tt
@@ -119,14 +119,3 @@ is_true false t = absurd t
 pub is_false : (x : Bool) → (T x → ⊥) → false ≡ x
 is_false true f = absurd (f tt)
 is_false false f = refl
-
--- two sides that are alike
-pub alike_self : (x : Bool) → T (alike x x)
-alike_self true = tt
-alike_self false = tt
-
-pub alike_is : (x y : Bool) → T (alike x y) → x ≡ y
-alike_is true true t = refl
-alike_is true false t = absurd t
-alike_is false true t = absurd t
-alike_is false false t = refl

@@ -12,12 +12,6 @@ pub total_next : (n : ℕ) (f : ℕ → ℕ) → total (n + 1) f ≡ total n f +
 unfolding total
 total_next n f = rw add-one
 
--- two at once
-pub total_add : (n : ℕ) (f g : ℕ → ℕ) → total n (λ x. f x + g x) ≡ total n f + total n g
-unfolding total
-total_add zero f g = refl
-total_add (suc n) f g = omega (arith, total_add n f g)
-
 -- no part is above the total
 pub total_one : (n : ℕ) (f : ℕ → ℕ) (x : ℕ) → x < n → f x ≤ total n f
 unfolding total

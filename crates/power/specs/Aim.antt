@@ -1,5 +1,5 @@
 -- Levels to aim at: what a target for the walk over the board has to be, however it was found.
--- A board is read plainly here, by `b.needs`: where there are choices, at `settled c b`. Needs are said by index, in the words of the trait `Parts`.
+-- Needs are said by index, in the words of the trait `Parts`: `on_of k`, `least_of k l` and `most_of k` of `b.needs x`.
 -- Assumes nothing.
 use Rattle.std.specs.Prelude.{◌≡◌, ℕ, ◌<◌, ◌≤◌, length}
 use Rattle.power.specs.Board.{Board, Granted, on_of, least_of, most_of, drawn_at}

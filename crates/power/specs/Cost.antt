@@ -13,10 +13,6 @@ cost (On v) tried l = (v - l) + (l - v)
 abbrev pub costs : Board → (ℕ → ℕ) → ℕ
 costs b l = total b.parts (λ x. cost (b.part x) (b.tried x) (l x))
 
--- what it costs at the most to come down as far as need be, and then up to the levels l from nothing
-abbrev pub anew_costs : Board → (ℕ → ℕ) → ℕ
-anew_costs b l = total b.parts (λ x. level_of (b.part x) + cond (l x == 0) 0 (64 + l x))
-
 -- all levels together: what coming down to nothing can cost
 abbrev pub height : Board → ℕ
 height b = total b.parts (λ x. level_of (b.part x))
@@ -25,13 +21,13 @@ height b = total b.parts (λ x. level_of (b.part x))
 abbrev pub CostIsBounded : Type 0
 CostIsBounded =
     (b : Board) → Sound b → b.parts ≤ 64 →
-    ((l : ℕ → ℕ) → ((x : ℕ) → x < b.parts → l x ≤ 15) → (costs b l ≤ 5056) × (anew_costs b l ≤ 6016) × (costs b l ≤ anew_costs b l)) × (height b ≤ 960)
+    ((l : ℕ → ℕ) → ((x : ℕ) → x < b.parts → l x ≤ 15) → costs b l ≤ 5056) × (height b ≤ 960)
 
 -- each asking on the way to l takes one off at least
 abbrev pub EachAskingPays : Type 0
 EachAskingPays =
     (b : Board) (l : ℕ → ℕ) (x : ℕ) → x < b.parts →
-    ((c : Bool) → T (is_off (b.part x)) → 1 ≤ l x → costs (raised x c b) l < costs b l) ×
+    (T (is_off (b.part x)) → 1 ≤ l x → costs (raised x b) l < costs b l) ×
     ((r : Bool) (b' : Board) → b.tried x < 64 → 1 ≤ l x → Tries b x r b' → costs b' l < costs b l) ×
     (0 < level_of (b.part x) → l x ≡ 0 → costs (lowered x b) l < costs b l) ×
     (T (is_on (b.part x)) → l x < level_of (b.part x) → costs (levelled x (level_of (b.part x) - 1) b) l < costs b l) ×

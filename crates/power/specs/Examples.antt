@@ -3,7 +3,7 @@
 use Rattle.std.specs.Prelude.{ℕ, Bool, true, false, not, ◌&&◌, T, List, [], ◌∷◌, replicate, ◌==◌, slice_index_or}
 use Rattle.power.specs.declared.Call.{Call}
 use Rattle.power.specs.declared.Call.TheVariants.{Want, Give}
-use Rattle.power.specs.Board.{Need, Plain, Board, Off, None', least_levels, can_be, good_plan, and_also, why, called}
+use Rattle.power.specs.Board.{Need, Board, Off, None', least_levels, can_be, good_plan, and_also, why, called}
 
 -- what is needed at 1, at 2, and from 3 on; nothing at 0
 abbrev pub from : ℕ → ℕ → ℕ → List ℕ
@@ -22,11 +22,11 @@ plan =
     ∷ []
 
 abbrev pub start : Board
-start = record { parts = 4; needs = λ x. slice_index_or plan x []; either = λ x. Plain; draws = λ x. replicate 16 0; gives = 0; part = λ x. Off; tried = λ x. 0; wish = λ u. None'; quiet = 0; left = 1024; fell = λ x. false; hit = λ x. false; calm = 0; owed = 0; choice = λ x. false; made = λ x. false; whose = 32; turned = λ x. false }
+start = record { parts = 4; needs = λ x. slice_index_or plan x []; draws = λ x. replicate 16 0; gives = 0; part = λ x. Off; tried = λ x. 0; wish = λ u. None'; quiet = 0; left = 1024; fell = λ x. false; hit = λ x. false; calm = 0; owed = 0 }
 
 -- the same parts, each drawing 1 at 1, 2 at 2 and 5 from 3 on, of 7 that are given
 abbrev pub drawing : Board
-drawing = record { parts = 4; needs = λ x. slice_index_or plan x []; either = λ x. Plain; draws = λ x. from 1 2 5; gives = 7; part = λ x. Off; tried = λ x. 0; wish = λ u. None'; quiet = 0; left = 1024; fell = λ x. false; hit = λ x. false; calm = 0; owed = 0; choice = λ x. false; made = λ x. false; whose = 32; turned = λ x. false }
+drawing = record { parts = 4; needs = λ x. slice_index_or plan x []; draws = λ x. from 1 2 5; gives = 7; part = λ x. Off; tried = λ x. 0; wish = λ u. None'; quiet = 0; left = 1024; fell = λ x. false; hit = λ x. false; calm = 0; owed = 0 }
 
 -- wants: none, and one
 abbrev pub nothing : ℕ → ℕ

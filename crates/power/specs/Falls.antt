@@ -4,7 +4,7 @@ use Rattle.std.specs.Prelude.{◌≡◌, ℕ, ◌<◌, ◌≤◌, Bool, false, c
 use Rattle.power.specs.declared.state.Wanted.{Wanted}
 use Rattle.power.specs.declared.state.Wanted.TheVariants as wanted
 use Rattle.power.specs.declared.state.Wishes.{Wishes}
-use Rattle.power.specs.Board.{Board, On, Asked, Granted, is_off, is_on, level_of, drawn, good_plan, needs_now, hangs, fallen}
+use Rattle.power.specs.Board.{Board, On, Asked, Granted, is_off, is_on, level_of, drawn, good_plan, hangs, fallen}
 use Rattle.power.specs.Sound.{Has}
 use Rattle.power.specs.Mirrors.{wanted_by, HasLost}
 
@@ -14,7 +14,6 @@ all_asked n b =
     record {
       parts = b.parts;
       needs = b.needs;
-      either = b.either;
       draws = b.draws;
       gives = b.gives;
       part = b.part;
@@ -26,10 +25,6 @@ all_asked n b =
       hit = b.hit;
       calm = b.calm;
       owed = b.owed;
-      choice = b.choice;
-      made = b.made;
-      whose = b.whose;
-      turned = b.turned;
     }
 
 -- none of them did
@@ -54,7 +49,7 @@ NoLoss ws n = (u : ℕ) → u < n → HasLost (wanted_by ws u) → ⊥
 -- f fell, and what hangs on it is off from the part i on. The board is sound but for what hangs on f.
 pub record Struck (b : Board) (f i : ℕ) : Type 0 where
   pub plan : T (good_plan b)
-  pub has : (x k : ℕ) → x < b.parts → T (not (hangs b f x)) → T (not (is_off (b.part x))) → k < length (needs_now b x) → Has b.part (needs_now b x) k (level_of (b.part x))
+  pub has : (x k : ℕ) → x < b.parts → T (not (hangs b f x)) → T (not (is_off (b.part x))) → k < length (b.needs x) → Has b.part (b.needs x) k (level_of (b.part x))
   pub range : (x l : ℕ) → x < b.parts → b.part x ≡ On l → (1 ≤ l) × (l ≤ 15)
   pub draws : drawn b b.part ≤ b.gives
   pub asks : (u x l a : ℕ) → u < 32 → b.wish u ≡ Asked x l a → (x < b.parts) × (1 ≤ l) × (l ≤ 15)

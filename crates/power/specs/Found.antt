@@ -1,11 +1,11 @@
--- What code tells of the least where choices are settled: of a part's needs, of the levels it finds, and of levels to aim at.
+-- What code tells of the least: of a part's needs, of the levels it finds, and of levels to aim at.
 -- Assumes nothing.
 use Rattle.std.specs.Prelude.{◌≡◌, ℕ, ◌<◌, ◌≤◌, Bool, not, ◌&&◌, ◌||◌, T, leb, List, length, Result, MatchResult, ◌==◌, nat_le}
 use Rattle.power.specs.declared.types.Levels.{Levels}
 use Rattle.power.specs.declared.types.Aims.{Aims}
 use Rattle.power.specs.declared.types.CantBe.{CantBe}
-use Rattle.power.specs.Board.{Board, Need, every, all, on_of, least_of, and_also}
-use Rattle.power.specs.Least.{lv, can_fit}
+use Rattle.power.specs.Board.{Board, Need, every, all, on_of, least_of, can_be, and_also}
+use Rattle.power.specs.Least.{lv}
 use Rattle.power.specs.Tables.{at}
 
 -- f raised to what the first k of these needs ask at level l, and no further
@@ -39,17 +39,17 @@ pub record Swept (b : Board) (want : ℕ → ℕ) (ls : Levels) : Type 0 where
 
 -- them; where a level is above 15 it can't be
 abbrev pub Sweeps : Board → (ℕ → ℕ) → Result Levels CantBe → Type 0
-Sweeps b want r = MatchResult r (λ ls. Swept b want ls) (λ _. T (not (can_fit b want)))
+Sweeps b want r = MatchResult r (λ ls. Swept b want ls) (λ _. T (not (can_be b want)))
 
 -- the least levels, for what can be
 pub record Found (b : Board) (want : ℕ → ℕ) (ls : Levels) : Type 0 where
-  pub can : T (can_fit b want)
+  pub can : T (can_be b want)
   pub same : (x : ℕ) → at ls x ≡ lv b want x
   pub low : (x : ℕ) → at ls x ≤ 15
 
 -- them, exactly if it can be
 abbrev pub Finds : Board → (ℕ → ℕ) → Result Levels CantBe → Type 0
-Finds b want r = MatchResult r (λ ls. Found b want ls) (λ _. T (not (can_fit b want)))
+Finds b want r = MatchResult r (λ ls. Found b want ls) (λ _. T (not (can_be b want)))
 
 -- the least for x at l with what's granted, and for x at l alone
 pub record Aimed (b : Board) (granted : ℕ → ℕ) (x l : ℕ) (a : Aims) : Type 0 where
@@ -58,4 +58,4 @@ pub record Aimed (b : Board) (granted : ℕ → ℕ) (x l : ℕ) (a : Aims) : Ty
 
 -- them, exactly if it can be with what's granted
 abbrev pub FindsAims : Board → (ℕ → ℕ) → (x l : ℕ) → Result Aims CantBe → Type 0
-FindsAims b granted x l r = MatchResult r (λ a. Aimed b granted x l a) (λ _. T (not (can_fit b (and_also granted x l))))
+FindsAims b granted x l r = MatchResult r (λ a. Aimed b granted x l a) (λ _. T (not (can_be b (and_also granted x l))))

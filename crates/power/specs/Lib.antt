@@ -1,7 +1,6 @@
 pub mod Ages
 pub mod Aim
 pub mod Board
-pub mod Choices
 pub mod Cost
 pub mod Examples
 pub mod Falls

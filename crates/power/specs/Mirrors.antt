@@ -1,6 +1,6 @@
 -- What the keeper's own tables say of a board.
 -- Assumes nothing.
-use Rattle.std.specs.Prelude.{◌≡◌, ℕ, ◌≤◌, Bool, false, ◌&&◌, ◌==◌, nat_lt, slice_index_or}
+use Rattle.std.specs.Prelude.{◌≡◌, ℕ, ◌≤◌, slice_index_or}
 use Rattle.power.specs.Board.{Board, Part, Off, Rising, On, Wish, None', Asked, Granted, Lost}
 use Rattle.power.specs.declared.state.PartState.{PartState}
 use Rattle.power.specs.declared.state.PartState.TheVariants as state
@@ -9,7 +9,6 @@ use Rattle.power.specs.declared.state.Wanted.TheVariants as wanted
 use Rattle.power.specs.declared.state.Mirror.{Mirror}
 use Rattle.power.specs.declared.state.Wishes.{Wishes}
 use Rattle.power.specs.declared.state.Driver.{Driver}
-use Rattle.power.specs.Tables.{side_at}
 
 abbrev pub part_of : PartState → Part
 part_of state.Off = Off
@@ -35,19 +34,9 @@ pub record Anew (m m' : Mirror) : Type 0 where
   pub part : (x : ℕ) → part_of (state_at m' x) ≡ part_of (state_at m x)
   pub tried : (x : ℕ) → TriedIs (state_at m' x) 0
 
--- x is a part of the goal that was found not to be good 64 times
-abbrev pub fails_by : PartState → ℕ → Bool
-fails_by state.Off l = false
-fails_by (state.Rising n) l = n.n == 64 && nat_lt 0 l
-fails_by (state.On v) l = false
-
-abbrev pub fails_at : Mirror → (ℕ → ℕ) → ℕ → Bool
-fails_at m goal x = fails_by (state_at m x) (goal x)
-
--- the driver knows the board's parts, and by which sides they go, and asks no more than it may
+-- the driver knows the board's parts, and asks no more than it may
 pub record Knows (d : Driver) (b : Board) : Type 0 where
   pub parts : Shows d.mirror b
-  pub sides : (x : ℕ) → side_at d.sides x ≡ b.choice x
   pub left : d.left ≤ b.left
 
 abbrev pub wanted_by : Wishes → ℕ → Wanted

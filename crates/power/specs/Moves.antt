@@ -1,20 +1,18 @@
 -- What a walk over the board leaves: what is unchanged, what it paid, and how it ended.
 -- n and n' are the askings that were left before and after.
 -- Assumes nothing.
-use Rattle.std.specs.Prelude.{◌≡◌, ℕ, ◌+◌, ◌<◌, ◌≤◌, Bool, true, false, T}
-use Rattle.power.specs.Board.{Board, Rising, granted, least_by, stands}
+use Rattle.std.specs.Prelude.{◌≡◌, ℕ, ◌+◌, ◌<◌, ◌≤◌, Bool, true, false}
+use Rattle.power.specs.Board.{Board, Rising}
 use Rattle.power.specs.Aim.{Fits, Covers, Serves}
-use Rattle.power.specs.Least.{settled}
-use Rattle.power.specs.Walk.{Under, GoesAsMade, Reached}
+use Rattle.power.specs.Walk.{Under, Reached}
 use Rattle.power.specs.Cost.{costs, height}
 use Rattle.power.specs.declared.state.Progress.{Progress}
 use Rattle.power.specs.declared.state.Progress.TheVariants.{Through, Spent, Stuck}
 
--- only the parts have changed, and what is left; parts that were off may go by another side; what's granted needs the same parts as before, by the same sides
+-- only the parts have changed, and what is left
 pub record OnlyParts (b b' : Board) : Type 0 where
   pub parts : b'.parts ≡ b.parts
   pub needs : b'.needs ≡ b.needs
-  pub either : b'.either ≡ b.either
   pub draws : b'.draws ≡ b.draws
   pub gives : b'.gives ≡ b.gives
   pub wish : b'.wish ≡ b.wish
@@ -23,18 +21,12 @@ pub record OnlyParts (b b' : Board) : Type 0 where
   pub hit : b'.hit ≡ b.hit
   pub calm : b'.calm ≡ b.calm
   pub owed : b'.owed ≡ b.owed
-  pub made : b'.made ≡ b.made
-  pub whose : b'.whose ≡ b.whose
-  pub turned : b'.turned ≡ b.turned
-  pub sides : (x : ℕ) → T (stands b x) → b'.choice x ≡ b.choice x
-  pub stand : least_by b' b'.choice (granted b') ≡ least_by b b.choice (granted b)
 
--- each asking took one at least off the height, and off the cost of any goal below the ceiling t; what went by the choice that was made still does
+-- each asking took one at least off the height, and off the cost of any goal below the ceiling t
 pub record CameDown (t : ℕ → ℕ) (n : ℕ) (b : Board) (n' : ℕ) (b' : Board) : Type 0 where
   pub only : OnlyParts b b'
   pub lower : height b' + n ≤ height b + n'
   pub nearer : (l : ℕ → ℕ) → Under b l t → costs b' l + n ≤ costs b l + n'
-  pub goes : GoesAsMade b → GoesAsMade b'
 
 -- each asking took one at least off the cost of the goal l
 pub record CameNearer (l : ℕ → ℕ) (n : ℕ) (b : Board) (n' : ℕ) (b' : Board) : Type 0 where
@@ -61,9 +53,9 @@ AllEnd Through b l n = (z : ℕ) → z < b.parts → Reached b l z
 AllEnd Spent b l n = n ≡ 0
 AllEnd Stuck b l n = (y : ℕ) × (y < b.parts) × StuckAt b l y
 
--- by the choice that was made: a ceiling t, that fits and covers what was granted, and a goal l below it, that serves itself
+-- a ceiling t, that fits and covers what was granted, and a goal l below it, that serves itself
 pub record Targets (b : Board) (t l : ℕ → ℕ) : Type 0 where
-  pub fits : Fits (settled b.made b) t
+  pub fits : Fits b t
   pub covers : Covers b t
-  pub serves : Serves (settled b.made b) l
+  pub serves : Serves b l
   pub under : Under b l t

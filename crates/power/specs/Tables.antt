@@ -2,7 +2,6 @@
 use Rattle.std.specs.Prelude.{ℕ, Bool, false, slice_index, slice_index_or}
 use Rattle.power.specs.declared.types.Levels.{Levels}
 use Rattle.power.specs.declared.types.Hits.{Hits}
-use Rattle.power.specs.declared.types.Sides.{Sides}
 
 -- the level of part x; 0 past the last
 abbrev pub at : Levels → ℕ → ℕ
@@ -11,7 +10,3 @@ at ls x = slice_index ls.of x
 -- whether part x is hit; past the last none is
 abbrev pub hit_at : Hits → ℕ → Bool
 hit_at h x = slice_index_or h.of x false
-
--- the side of part x; past the last the first
-abbrev pub side_at : Sides → ℕ → Bool
-side_at s x = slice_index_or s.of x false

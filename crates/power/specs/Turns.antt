@@ -1,20 +1,19 @@
 -- Whose turn it is, and what is aimed at for them.
 -- Assumes nothing.
-use Rattle.std.specs.Prelude.{◌≡◌, ℕ, false, cond, T, ◌≢◌, ◌==◌}
+use Rattle.std.specs.Prelude.{◌≡◌, ℕ, T, ◌≢◌}
 use Rattle.power.specs.declared.types.Aims.{Aims}
 use Rattle.power.specs.declared.state.Turn.{Turn}
-use Rattle.power.specs.Board.{Board, Wish, None', Asked, Granted, Lost, alone, fits_by, granted, and_also}
-use Rattle.power.specs.Promise.{Agrees}
+use Rattle.power.specs.Board.{Board, Wish, None', Asked, Granted, Lost, can_be, granted, and_also}
 use Rattle.power.specs.Tables.{at}
 use Rattle.power.specs.Moves.{Targets}
 use Rattle.power.specs.Rota.{moved_on}
+use Rattle.power.specs.Ages.{goal}
 
--- by the choice that was made, which agrees with what stands: a ceiling, and the goal of x at l, which still fits with what is granted
+-- a ceiling, and the goal of x at l, which still can be with what is granted
 pub record AimsAt (b : Board) (a : Aims) (x l : ℕ) : Type 0 where
   pub targets : Targets b (at a.ceiling) (at a.goal)
-  pub same : ◌≡◌ {A = ℕ → ℕ} (at a.goal) (alone b x l)
-  pub fits : T (fits_by b b.made (and_also (granted b) x l))
-  pub agrees : Agrees b b.made
+  pub same : ◌≡◌ {A = ℕ → ℕ} (at a.goal) (goal b x l)
+  pub can : T (can_be b (and_also (granted b) x l))
 
 -- the same for a user who wants w: they wait
 abbrev pub AimsFor : Board → Aims → Wish → Type 0
@@ -27,5 +26,3 @@ AimsFor b a Lost = ⊥
 pub record DoneWith (u : ℕ) (t t' : Turn) : Type 0 where
   pub user : t'.user.n ≡ moved_on u t.user.n
   pub aims : T t'.aiming → T t.aiming × (t.user.n ≢ u) × (t'.aims ≡ t.aims)
-  pub made : t'.made ≡ t.made
-  pub aiming : t'.aiming ≡ cond (t.user.n == u) false t.aiming

@@ -1,9 +1,8 @@
 -- The walk over the board, down to a ceiling and up to a goal below it: the next step is always allowed, and keeps the way so far.
 -- Assumes nothing.
-use Rattle.std.specs.Prelude.{◌≡◌, ℕ, ◌+◌, ◌-◌, ◌<◌, ◌≤◌, Bool, not, T, length}
-use Rattle.power.specs.Board.{Board, on_of, least_of, needs_now, is_two, is_off, is_on, level_of, MayRaise, MayLower, MayLevel, Tries, raised, lowered, levelled}
+use Rattle.std.specs.Prelude.{◌≡◌, ℕ, ◌+◌, ◌-◌, ◌<◌, ◌≤◌, Bool, not, T}
+use Rattle.power.specs.Board.{Board, is_off, is_on, level_of, MayRaise, MayLower, MayLevel, Tries, raised, lowered, levelled}
 use Rattle.power.specs.Aim.{Fits, Covers, Serves}
-use Rattle.power.specs.Least.{settled}
 use Rattle.power.specs.Sound.{Sound}
 
 -- no part is above the ceiling t, of those that there are
@@ -22,34 +21,25 @@ Reached b l z = (l z ≤ level_of (b.part z)) × (0 < l z → T (is_on (b.part z
 abbrev pub Unhit : Board → Type 0
 Unhit b = (x : ℕ) → x < b.parts → T (not (b.hit x))
 
--- t fits where parts aren't off, by the sides that are fixed
-pub record FitsNow (b : Board) (t : ℕ → ℕ) : Type 0 where
-  pub fifteen : (x : ℕ) → x < b.parts → t x ≤ 15
-  pub meets : (x k : ℕ) → x < b.parts → T (not (is_off (b.part x))) → 0 < t x → k < length (needs_now b x) → least_of k (t x) (needs_now b x) ≤ t (on_of k (needs_now b x))
-
--- what isn't off goes by the choice that was made
-abbrev pub GoesAsMade : Board → Type 0
-GoesAsMade b = (x : ℕ) → x < b.parts → T (not (is_off (b.part x))) → T (is_two (b.either x)) → b.choice x ≡ b.made x
-
 -- The next step down, from the last part to the first: the first part from above that is higher than t can be off, or come down by one.
 abbrev pub DownGoesOn : Type 0
 DownGoesOn =
-    (b : Board) (t : ℕ → ℕ) → Sound b → FitsNow b t → Covers b t → 0 < b.left →
+    (b : Board) (t : ℕ → ℕ) → Sound b → Fits b t → Covers b t → 0 < b.left →
     (y : ℕ) → y < b.parts → ((z : ℕ) → y < z → z < b.parts → level_of (b.part z) ≤ t z) → t y < level_of (b.part y) →
     (t y ≡ 0 → MayLower b y) × (1 ≤ t y → MayLevel b y (level_of (b.part y) - 1))
 
--- The next step up, by the choice that was made, from the first part to the last, below the ceiling t, where no part is hit: the first part from below that is lower than l can be raised, or go up by one.
+-- The next step up, from the first part to the last, below the ceiling t, where no part is hit: the first part from below that is lower than l can be raised, or go up by one.
 abbrev pub UpGoesOn : Type 0
 UpGoesOn =
-    (b : Board) (t l : ℕ → ℕ) → Sound b → Unhit b → b.whose < 32 → GoesAsMade b → Fits (settled b.made b) t → Serves (settled b.made b) l → Below b t → Under b l t → 0 < b.left →
+    (b : Board) (t l : ℕ → ℕ) → Sound b → Unhit b → Fits b t → Serves b l → Below b t → Under b l t → 0 < b.left →
     (y : ℕ) → y < b.parts → ((z : ℕ) → z < y → Reached b l z) →
-    (T (is_off (b.part y)) → 1 ≤ l y → MayRaise b y (b.made y)) ×
+    (T (is_off (b.part y)) → 1 ≤ l y → MayRaise b y) ×
     (T (is_on (b.part y)) → level_of (b.part y) < l y → MayLevel b y (level_of (b.part y) + 1))
 
 -- on the way down to the ceiling t, the parts from i on are through
 pub record Down (b : Board) (t : ℕ → ℕ) (i : ℕ) : Type 0 where
   pub sound : Sound b
-  pub fits : FitsNow b t
+  pub fits : Fits b t
   pub covers : Covers b t
   pub through : (z : ℕ) → i ≤ z → z < b.parts → level_of (b.part z) ≤ t z
 
@@ -57,10 +47,8 @@ pub record Down (b : Board) (t : ℕ → ℕ) (i : ℕ) : Type 0 where
 pub record Up (b : Board) (t l : ℕ → ℕ) (i : ℕ) : Type 0 where
   pub sound : Sound b
   pub unhit : Unhit b
-  pub whose : b.whose < 32
-  pub goes : GoesAsMade b
-  pub fits : Fits (settled b.made b) t
-  pub serves : Serves (settled b.made b) l
+  pub fits : Fits b t
+  pub serves : Serves b l
   pub below : Below b t
   pub under : Under b l t
   pub through : (z : ℕ) → z < i → Reached b l z
@@ -75,7 +63,7 @@ DownSteps =
 abbrev pub UpSteps : Type 0
 UpSteps =
     (b : Board) (t l : ℕ → ℕ) (y : ℕ) → y < b.parts → Up b t l y →
-    (0 < b.left → T (is_off (b.part y)) → 1 ≤ l y → MayRaise b y (b.made y) × Up (raised y (b.made y) b) t l y) ×
+    (0 < b.left → T (is_off (b.part y)) → 1 ≤ l y → MayRaise b y × Up (raised y b) t l y) ×
     ((r : Bool) (b' : Board) → Tries b y r b' → Up b' t l y) ×
     (0 < b.left → T (is_on (b.part y)) → level_of (b.part y) < l y → MayLevel b y (level_of (b.part y) + 1) × Up (levelled y (level_of (b.part y) + 1) b) t l y) ×
     (Reached b l y → Up b t l (y + 1))

@@ -23,17 +23,16 @@ impl Driver {
         self.mirror.put(x, PartState::Off);
     }
 
-    pub(crate) fn raise_part<P: Parts>(&mut self, b: &mut P, x: PartId, side: bool)
-        requires may { MayRaise (P.board b.old) x.n side }
+    pub(crate) fn raise_part<P: Parts>(&mut self, b: &mut P, x: PartId)
+        requires may { MayRaise (P.board b.old) x.n }
         requires can { 0 < self.old.left }
         requires knows { Knows self.old (P.board b.old) }
-        ensures does { P.board b.new ≡ raised x.n side (P.board b.old) }
+        ensures does { P.board b.new ≡ raised x.n (P.board b.old) }
         ensures spends { self.new.left + 1 ≡ self.old.left }
         ensures knows { Knows self.new (P.board b.new) }
     {
         self.left -= 1;
-        b.raise(x.n, side);
-        self.sides.put(x, side);
+        b.raise(x.n);
         self.mirror.put(x, PartState::Rising(Tried { n: 0 }));
     }
 

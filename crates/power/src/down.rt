@@ -1,10 +1,10 @@
 // The way down to a ceiling: the parts from the last to the first, so that no part loses what another still needs.
 ghost use Rattle.std.specs.Prelude.{◌+◌, ◌<◌, ◌≤◌};
 ghost use Rattle.power.specs.Board.{level_of};
-ghost use Rattle.power.specs.Aim.{Covers};
+ghost use Rattle.power.specs.Aim.{Fits, Covers};
 ghost use Rattle.power.specs.Tables.{at};
 ghost use Rattle.power.specs.Sound.{Sound};
-ghost use Rattle.power.specs.Walk.{Below, FitsNow, Down};
+ghost use Rattle.power.specs.Walk.{Below, Down};
 ghost use Rattle.power.specs.Mirrors.{Knows};
 ghost use Rattle.power.specs.Moves.{CameDown, OrSpent};
 
@@ -42,7 +42,7 @@ impl Driver {
     pub(crate) fn come_down<P: Parts>(&mut self, b: &mut P, ceiling: &Levels) -> bool
         requires few { (P.board b.old).parts ≤ 64 }
         requires sound { Sound (P.board b.old) }
-        requires fits { FitsNow (P.board b.old) (at ceiling.now) }
+        requires fits { Fits (P.board b.old) (at ceiling.now) }
         requires covers { Covers (P.board b.old) (at ceiling.now) }
         requires knows { Knows self.old (P.board b.old) }
         ensures came { CameDown (at ceiling.now) self.old.left (P.board b.old) self.new.left (P.board b.new) }

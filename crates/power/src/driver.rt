@@ -6,7 +6,6 @@ ghost use Rattle.power.specs.Mirrors.{Knows};
 use crate::Answer;
 use crate::refusal::NOT_GOOD;
 use crate::state::{Driver, Mirror};
-use crate::types::Sides;
 
 // How often the board may be asked in a tick.
 pub(crate) const ASKINGS: u32 = 1024;
@@ -17,7 +16,6 @@ impl Driver {
     {
         Driver {
             mirror: Mirror::new(),
-            sides: Sides::new(),
             left: 0,
         }
     }

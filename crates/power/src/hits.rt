@@ -1,11 +1,11 @@
-// What hangs on a part, by a side for each part: that part, and all that need it, themselves or by others.
+// What hangs on a part: the part, and all that need it, themselves or by others.
 ghost use Rattle.std.specs.Prelude.{◌≡◌, ℕ, ◌<◌, ◌≤◌, false, ◌||◌, T, replicate, ◌==◌, slice_set};
-ghost use Rattle.power.specs.Board.{good_plan, needs_by, hangs_on, some_on};
-ghost use Rattle.power.specs.Tables.{hit_at, side_at};
+ghost use Rattle.power.specs.Board.{good_plan, hangs, some_on};
+ghost use Rattle.power.specs.Tables.{hit_at};
 
 use crate::Parts;
-use crate::needs::{need_count, need_on};
-use crate::types::{Hits, PartId, Sides};
+use crate::least::need_on;
+use crate::types::{Hits, PartId};
 
 impl Hits {
     // No part.
@@ -29,14 +29,14 @@ impl Hits {
 }
 
 // Is one of the needs of x hit?
-fn some_hit<P: Parts>(b: &P, sides: &Sides, x: PartId, hits: &Hits) -> bool
+fn some_hit<P: Parts>(b: &P, x: PartId, hits: &Hits) -> bool
     requires few { (P.board b.now).parts ≤ 64 }
     requires plan { T (good_plan (P.board b.now)) }
     requires part { x.n < (P.board b.now).parts }
-    ensures { result ≡ some_on (hit_at hits.now) (needs_by (P.board b.now) (side_at sides.now) x.n) }
+    ensures { result ≡ some_on (hit_at hits.now) ((P.board b.now).needs x.n) }
 {
-    for k in 0..need_count(b, sides, x) {
-        if hits.get(need_on(b, sides, x, k)) {
+    for k in 0..b.needs(x.n) {
+        if hits.get(need_on(b, x, k)) {
             return true;
         }
     }
@@ -44,26 +44,26 @@ fn some_hit<P: Parts>(b: &P, sides: &Sides, x: PartId, hits: &Hits) -> bool
 }
 
 // Does x hang on f, these being the flags of what x needs?
-fn is_hit<P: Parts>(b: &P, sides: &Sides, f: PartId, x: PartId, hits: &Hits) -> bool
+fn is_hit<P: Parts>(b: &P, f: PartId, x: PartId, hits: &Hits) -> bool
     requires few { (P.board b.now).parts ≤ 64 }
     requires plan { T (good_plan (P.board b.now)) }
     requires part { x.n < (P.board b.now).parts }
-    ensures { result ≡ (x.n == f.n || some_on (hit_at hits.now) (needs_by (P.board b.now) (side_at sides.now) x.n)) }
+    ensures { result ≡ (x.n == f.n || some_on (hit_at hits.now) ((P.board b.now).needs x.n)) }
 {
-    x.n == f.n || some_hit(b, sides, x, hits)
+    x.n == f.n || some_hit(b, x, hits)
 }
 
 // From the first part to the last, as needs go to smaller numbers.
-pub fn hits<P: Parts>(b: &P, sides: &Sides, f: PartId) -> Hits
+pub fn hits<P: Parts>(b: &P, f: PartId) -> Hits
     requires few { (P.board b.now).parts ≤ 64 }
     requires plan { T (good_plan (P.board b.now)) }
     requires part { f.n < (P.board b.now).parts }
-    ensures { (x : ℕ) → hit_at result x ≡ hangs_on (P.board b.now).parts (needs_by (P.board b.now) (side_at sides.now)) f.n x }
+    ensures { (x : ℕ) → hit_at result x ≡ hangs (P.board b.now) f.n x }
 {
     let mut hits = Hits::new();
     for n in 0..b.parts() {
         let x = PartId { n };
-        let hit = is_hit(b, sides, f, x, &hits);
+        let hit = is_hit(b, f, x, &hits);
         hits.put(x, hit);
     }
     hits

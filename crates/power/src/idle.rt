@@ -1,10 +1,9 @@
 // A tick in which nobody waits: after 32 of them the board comes down to the least for what was granted.
-ghost use Rattle.std.specs.Prelude.{◌≡◌, ◌+◌, ◌≤◌, T, None};
+ghost use Rattle.std.specs.Prelude.{◌≡◌, ◌≤◌, T, None};
 ghost use Rattle.power.specs.Board.{lean};
 ghost use Rattle.power.specs.Sound.{Sound};
 ghost use Rattle.power.specs.Mirrors.{Knows, SaysAll};
-ghost use Rattle.power.specs.Cost.{height};
-ghost use Rattle.power.specs.Moves.{OnlyParts, OrSpent};
+ghost use Rattle.power.specs.Moves.{OnlyParts};
 ghost use Rattle.power.specs.Rota.{NobodyWaits};
 ghost use Rattle.power.specs.Kept.{Ready, NobodyLost, Worked};
 
@@ -16,22 +15,24 @@ use crate::{Keeper, Parts};
 const COMES_DOWN_AFTER: u32 = 32;
 
 impl Driver {
-    // Down towards the least for what was granted, by the sides that are fixed. False: no asking is left.
-    pub(crate) fn descend<P: Parts>(&mut self, b: &mut P, wishes: &Wishes) -> bool
+    // Down to the least for what was granted: 64 parts at 15 are 960.
+    pub(crate) fn settle<P: Parts>(&mut self, b: &mut P, wishes: &Wishes)
         requires few { (P.board b.old).parts ≤ 64 }
         requires sound { Sound (P.board b.old) }
         requires says { SaysAll wishes.now (P.board b.old) }
         requires knows { Knows self.old (P.board b.old) }
+        requires room { 960 ≤ self.old.left }
         ensures only { OnlyParts (P.board b.old) (P.board b.new) }
-        ensures lower { height (P.board b.new) + self.old.left ≤ height (P.board b.old) + self.new.left }
-        ensures ends { OrSpent result self.new.left (T (lean (P.board b.new))) }
         ensures sound { Sound (P.board b.new) }
+        ensures low { T (lean (P.board b.new)) }
         ensures knows { Knows self.new (P.board b.new) }
     {
         let granted = wishes.granted();
-        match least(b, &self.sides, &granted) {
-            Ok(to) => self.come_down(b, &to),
-            Err(_) => false,
+        match least(b, &granted) {
+            Ok(to) => {
+                let _through = self.come_down(b, &to);
+            }
+            Err(_) => {}
         }
     }
 }
@@ -45,8 +46,7 @@ impl Keeper {
         ensures { Worked None self.new (P.board b.new) }
     {
         if self.idle == COMES_DOWN_AFTER {
-            // 64 parts at 15 are 960 askings
-            let _through = self.driver.descend(b, &self.wishes);
+            self.driver.settle(b, &self.wishes);
             self.quiet_tick();
             return;
         }

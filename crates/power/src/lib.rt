@@ -1,16 +1,13 @@
 // The board, whoever uses it, the keeper of its power, and the days between.
 #![tactic(auto)]
 
-ghost use Rattle.std.specs.Prelude.{◌≡◌, ℕ, ◌+◌, ◌<◌, ◌≤◌, true, false, not, T, length, slice_index_or};
-ghost use Rattle.power.specs.Board.{Board, MayRaise, MayLower, MayLevel, Tries, raised, lowered, levelled, is_rising, is_two, needs_on, on_of, least_of, most_of, draw_at, MayChoose, chosen, picked, wants_too, why, called, may_tell, told, in_time, ticked, Between, fell_asked, AtStart};
+ghost use Rattle.std.specs.Prelude.{◌≡◌, ℕ, ◌+◌, ◌<◌, ◌≤◌, true, false, not, T, length};
+ghost use Rattle.power.specs.Board.{Board, MayRaise, MayLower, MayLevel, Tries, raised, lowered, levelled, is_rising, on_of, least_of, most_of, draw_at, why, called, may_tell, told, in_time, ticked, Between, fell_asked, AtStart};
 ghost use Rattle.power.specs.Promise.{LeastServes, LeastIsLeast, MoreIsMore, CannotBe};
 ghost use Rattle.power.specs.Kept.{Kept, KeptOrFell, Worked};
 
 pub mod aims;
 mod askings;
-mod begin;
-pub mod blame;
-pub mod choose;
 mod course;
 mod down;
 mod driver;
@@ -23,18 +20,15 @@ pub mod least;
 pub mod levels;
 mod lost;
 mod mirror;
-mod needs;
 mod recover;
 pub mod refusal;
 mod rota;
 mod serve;
-pub mod sides;
 pub mod state;
 pub mod theorems;
 pub mod theorems_walk;
 mod tick;
 mod turn;
-mod turning;
 pub mod types;
 mod up;
 mod users;
@@ -44,7 +38,6 @@ use crate::driver::ASKINGS;
 use crate::fallen::fallen;
 use crate::refusal::number;
 use crate::state::{Driver, Turn, Wishes};
-use crate::types::Sides;
 
 // Users 0 to 31, parts 0 to 63, levels 1 to 15.
 #[derive(Clone, Copy)]
@@ -72,24 +65,21 @@ pub trait Parts {
 
     fn parts(&self) -> u32
         ensures { result ≡ (board self.now).parts };
-    // does it need one of two
-    fn two(&self, x: u32) -> bool
-        ensures { result ≡ is_two ((board self.now).either x) };
-    // by that side: how many others it needs; the kth of these, what that must be at least when it is at level l, and at most
-    fn needs(&self, x: u32, c: bool) -> u32
-        ensures { result ≡ length (needs_on (board self.now) x c) };
+    // how many others it needs; the kth of these, what that must be at least when it is at level l, and at most
+    fn needs(&self, x: u32) -> u32
+        ensures { result ≡ length ((board self.now).needs x) };
 
-    fn need_on(&self, x: u32, c: bool, k: u32) -> u32
-        requires { k < length (needs_on (board self.now) x c) }
-        ensures { result ≡ on_of k (needs_on (board self.now) x c) };
+    fn need_on(&self, x: u32, k: u32) -> u32
+        requires { k < length ((board self.now).needs x) }
+        ensures { result ≡ on_of k ((board self.now).needs x) };
 
-    fn need_least(&self, x: u32, c: bool, k: u32, l: u32) -> u32
-        requires { (k < length (needs_on (board self.now) x c)) × (l < 16) }
-        ensures { result ≡ least_of k l (needs_on (board self.now) x c) };
+    fn need_least(&self, x: u32, k: u32, l: u32) -> u32
+        requires { (k < length ((board self.now).needs x)) × (l < 16) }
+        ensures { result ≡ least_of k l ((board self.now).needs x) };
 
-    fn need_most(&self, x: u32, c: bool, k: u32) -> u32
-        requires { k < length (needs_on (board self.now) x c) }
-        ensures { result ≡ most_of k (needs_on (board self.now) x c) };
+    fn need_most(&self, x: u32, k: u32) -> u32
+        requires { k < length ((board self.now).needs x) }
+        ensures { result ≡ most_of k ((board self.now).needs x) };
     // what it draws at level l; what the board gives
     fn draw(&self, x: u32, l: u32) -> u32
         requires { l < 16 }
@@ -98,15 +88,10 @@ pub trait Parts {
     fn gives(&self) -> u32
         ensures { result ≡ (board self.now).gives };
 
-    // a choice is made for what u wants: a side for each part. This is no asking.
-    fn choose(&mut self, u: u32, c: &[bool; 64])
-        requires { (MayChoose (board self.old) u) × (((x : ℕ) → slice_index_or c.now x false ≡ picked (board self.old) (wants_too (board self.old) ((board self.old).wish u)) x)) }
-        ensures { board self.new ≡ chosen u (board self.old) };
-
-    // it begins to rise, by that side; is it good yet; it's off; it's at another level
-    fn raise(&mut self, x: u32, c: bool)
-        requires { MayRaise (board self.old) x c }
-        ensures { board self.new ≡ raised x c (board self.old) };
+    // it begins to rise; is it good yet; it's off; it's at another level
+    fn raise(&mut self, x: u32)
+        requires { MayRaise (board self.old) x }
+        ensures { board self.new ≡ raised x (board self.old) };
 
     fn good(&mut self, x: u32) -> bool
         requires { (0 < (board self.old).left) × ((x < (board self.old).parts) × ((T (is_rising ((board self.old).part x))) × (T (not ((board self.old).hit x))))) }
@@ -152,8 +137,6 @@ pub struct Keeper {
     driver: Driver,
     wishes: Wishes,
     turn: Turn,
-    // the parts whose second side is to be tried first
-    turned: Sides,
     // for how many ticks it has been quiet
     idle: u32,
 }
@@ -169,7 +152,6 @@ impl Keeper {
             driver: Driver::new(),
             wishes: Wishes::new(),
             turn: Turn::new(),
-            turned: Sides::new(),
             idle: 0,
         }
     }

@@ -95,7 +95,7 @@ impl Keeper {
         ensures bears { Bears self.new.turn.user.n (P.board b.new) }
         ensures room { 960 ≤ self.new.driver.left }
     {
-        let hits = hits(b, &self.driver.sides, f);
+        let hits = hits(b, f);
         self.driver.mirror.put(f, PartState::Off);
         self.wishes.lose(&hits);
         self.driver.clear(b, f, &hits);

@@ -1,7 +1,7 @@
 // What the keeper knows: of each part, of each user, whose turn it is, and how often it may still ask in this tick.
 ghost use Rattle.std.specs.Prelude.{◌≡◌, ◌≤◌, length};
 
-use crate::types::{Aims, Level, PartId, Sides, UserId};
+use crate::types::{Aims, Level, PartId, UserId};
 
 // How often a rising part was found not to be good, up to 64.
 #[derive(Clone, Copy)]
@@ -42,21 +42,19 @@ pub struct Wishes {
     ghost long: { length wanted ≡ 32 },
 }
 
-// Drives the parts: it knows them, and by which side each goes, and has so many askings left in this tick.
+// Drives the parts: it knows them, and has so many askings left in this tick.
 #[derive(Drop)]
 pub struct Driver {
     pub mirror: Mirror,
-    pub sides: Sides,
     pub left: u32,
 }
 
-// Whose turn it is; and while they are served, what is aimed at, and by which sides: made when the turn comes to their want, and kept until it's over.
+// Whose turn it is; and while they are served, what is aimed at: made when the turn comes to their want, and kept until it's over.
 #[derive(Drop)]
 pub struct Turn {
     pub user: UserId,
     pub aiming: bool,
     pub aims: Aims,
-    pub made: Sides,
 }
 
 // How far the way up came: all the way; as far as the askings of this tick went; or to a part that was found not to be good 64 times.

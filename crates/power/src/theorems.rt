@@ -1,6 +1,6 @@
-// Theorems on the least, on choices, and on what hangs on a part that fell, each named by a contract.
+// Theorems on the least, and on what hangs on a part that fell, each named by a contract.
 ghost use Rattle.power.specs.Least.{LeastJoins, FewerCanBe, LeastIsTight, TightIsLeast};
-ghost use Rattle.power.specs.Promise.{MoreMayBeLess, MoreIsMoreBy, GrantedStays, RuleOfChoice, NextTakesTheOther, HangsIs, HangsOnly, OthersKeep, HitMayGo};
+ghost use Rattle.power.specs.Promise.{HangsIs, HangsOnly, OthersKeep, HitMayGo};
 ghost use Rattle.power.specs.Examples.{ExamplesHold};
 
 // Two wants together: for each part the larger of both leasts.
@@ -20,34 +20,6 @@ pub fn fewer_can_be() -> u8
 // The least is pinned down: wanted, needed, and no higher than that.
 pub fn least_is_tight() -> u8
     ensures { (LeastIsTight) × (TightIsLeast) }
-{
-    0
-}
-
-// More is wanted, and a part is lower, as another choice is made; by one choice none is.
-pub fn more_may_be_less() -> u8
-    ensures { (MoreMayBeLess) × (MoreIsMoreBy) }
-{
-    0
-}
-
-// Whoever has something keeps it, whatever is chosen for others.
-pub fn granted_stays() -> u8
-    ensures { GrantedStays }
-{
-    0
-}
-
-// A free part takes the side to be tried first if there is a way by it, and else the other; what stands keeps its side.
-pub fn rule_of_choice() -> u8
-    ensures { RuleOfChoice }
-{
-    0
-}
-
-// After a 6 the next choice has the other side of a part that is blamed, if there is a way by it.
-pub fn next_takes_the_other() -> u8
-    ensures { NextTakesTheOther }
 {
     0
 }

@@ -4,18 +4,17 @@ ghost use Rattle.power.specs.Board.{Board, told, ticked};
 ghost use Rattle.power.specs.Mirrors.{wanted_by};
 ghost use Rattle.power.specs.Rota.{NobodyWaits};
 ghost use Rattle.power.specs.Turns.{DoneWith};
-ghost use Rattle.power.specs.Kept.{Mirrors, OnlyTurned};
-ghost use Rattle.power.specs.declared.Keeper.{Keeper};
+ghost use Rattle.power.specs.Kept.{Mirrors};
 ghost use Rattle.power.specs.declared.state.Wanted.TheVariants.{Asked};
 
 use crate::types::{Level, PartId, UserId};
 use crate::{Answer, Keeper};
 
 impl Keeper {
-    // u, who wants x at l, is told; k is the keeper before its sides turned for it.
+    // u, who wants x at l, is told.
     pub(crate) fn tell(&mut self, u: UserId, x: PartId, l: Level, a: Answer)
         requires waits { Asked x l ≡ wanted_by self.old.wishes u.n }
-        ensures mirrors { (k : Keeper) (b : Board) → Mirrors k b → OnlyTurned u.n a b k self.old → Mirrors self.new (told u.n a b) }
+        ensures mirrors { (b : Board) → Mirrors self.old b → Mirrors self.new (told u.n a b) }
         ensures turn { DoneWith u.n self.old.turn self.new.turn }
     {
         self.wishes.answer(u, x, l, a);

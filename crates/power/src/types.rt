@@ -37,13 +37,6 @@ pub struct Hits {
     ghost long: { length of ≡ 64 },
 }
 
-// For each part a side of its need of one of two: false is the first. It means nothing for other parts.
-#[derive(Clone, Copy)]
-pub struct Sides {
-    pub of: [bool; 64],
-    ghost long: { length of ≡ 64 },
-}
-
 // Levels to aim at: no part higher than the ceiling, none lower than the goal.
 #[derive(Drop)]
 pub struct Aims {

@@ -1,14 +1,14 @@
-// The way up to a goal below the ceiling, by the choice that was made: the parts from the first to the last, so that each has what it needs.
-ghost use Rattle.std.specs.Prelude.{◌≡◌, ℕ, ◌<◌, ◌≤◌};
-ghost use Rattle.power.specs.Tables.{at, side_at};
+// The way up to a goal below the ceiling: the parts from the first to the last, so that each has what it needs.
+ghost use Rattle.std.specs.Prelude.{◌<◌, ◌≤◌};
+ghost use Rattle.power.specs.Tables.{at};
 ghost use Rattle.power.specs.Sound.{Sound};
-ghost use Rattle.power.specs.Walk.{GoesAsMade, Up};
+ghost use Rattle.power.specs.Walk.{Up};
 ghost use Rattle.power.specs.Mirrors.{Knows};
 ghost use Rattle.power.specs.Moves.{CameNearer, PartEnds, AllEnd};
 
 use crate::Parts;
 use crate::state::{Driver, PartState, Progress};
-use crate::types::{Level, Levels, PartId, Sides};
+use crate::types::{Level, Levels, PartId};
 
 // A rising part is asked so often whether it's good.
 const TRIES: u32 = 64;
@@ -21,11 +21,9 @@ impl Driver {
         x: PartId,
         ceiling: &Levels,
         goal: &Levels,
-        made: &Sides,
     ) -> Progress
         requires part { x.n < (P.board b.old).parts }
         requires up { Up (P.board b.old) (at ceiling.now) (at goal.now) x.n }
-        requires made { (z : ℕ) → side_at made.now z ≡ (P.board b.old).made z }
         requires knows { Knows self.old (P.board b.old) }
         ensures came { CameNearer (at goal.now) self.old.left (P.board b.old) self.new.left (P.board b.new) }
         ensures ends { PartEnds result (P.board b.new) (at goal.now) x.n self.new.left }
@@ -38,7 +36,7 @@ impl Driver {
         }
         while self.left > 0 {
             match self.mirror.get(x) {
-                PartState::Off => self.raise_part(b, x, made.get(x)),
+                PartState::Off => self.raise_part(b, x),
                 PartState::Rising(n) => {
                     if n.n == TRIES {
                         return Progress::Stuck;
@@ -57,26 +55,18 @@ impl Driver {
     }
 
     // All parts.
-    pub(crate) fn go_up<P: Parts>(
-        &mut self,
-        b: &mut P,
-        ceiling: &Levels,
-        goal: &Levels,
-        made: &Sides,
-    ) -> Progress
+    pub(crate) fn go_up<P: Parts>(&mut self, b: &mut P, ceiling: &Levels, goal: &Levels) -> Progress
         requires few { (P.board b.old).parts ≤ 64 }
         requires up { Up (P.board b.old) (at ceiling.now) (at goal.now) 0 }
-        requires made { (z : ℕ) → side_at made.now z ≡ (P.board b.old).made z }
         requires knows { Knows self.old (P.board b.old) }
         ensures came { CameNearer (at goal.now) self.old.left (P.board b.old) self.new.left (P.board b.new) }
-        ensures goes { GoesAsMade (P.board b.new) }
         ensures ends { AllEnd result (P.board b.new) (at goal.now) self.new.left }
         ensures sound { Sound (P.board b.new) }
         ensures knows { Knows self.new (P.board b.new) }
     {
         let n = b.parts();
         for x in 0..n {
-            match self.raise_to(b, PartId { n: x }, ceiling, goal, made) {
+            match self.raise_to(b, PartId { n: x }, ceiling, goal) {
                 Progress::Through => {}
                 Progress::Spent => return Progress::Spent,
                 Progress::Stuck => return Progress::Stuck,

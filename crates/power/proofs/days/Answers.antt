@@ -1,4 +1,4 @@
-use Rattle.std.proofs.Common.{◌≡◌, sym, ap, ◌∙◌, subst}
+use Rattle.std.proofs.Common.{sym, ap, ◌∙◌, subst}
 use Rattle.power.specs.Board.{Board, ticked}
 use Rattle.power.specs.Kept.{Kept}
 use Rattle.power.proofs.KeptFalls.{kept_between, between_call, between_left}

@@ -1,6 +1,5 @@
-use Rattle.std.proofs.Common.{refl, arith}
+use Rattle.std.proofs.Common.{refl}
 use Rattle.power.proofs.Pursuing.{mirrors_only}
-use Rattle.power.proofs.Settling.{lean_anyway}
 use Rattle.power.proofs.KeptTicks.{worked_settled, worked_idle}
 use Rattle.power.proofs.Keeper.be_idle.Goals as goal
 
@@ -9,8 +8,8 @@ returns-then-self-eq-COMES_DOWN_AFTER g c =
     let k = c.args.self.now in
     let b = g.P.Parts.board c.args.b.now in
     let m = c.requires.ready in
-    let r = c.descend-through.ensures in
-    worked_settled k _ b m c.requires.nobody c.requires.lost c.quiet_tick.ensures.turn _ c.if-self-eq-COMES_DOWN_AFTER.true r.only r.sound (lean_anyway _ _ _ b _ m.sound (omega (arith, m.mirrors.parts, m.mirrors.few)) c.requires.room r.lower r.ends r.sound)
+    let r = c.settle.ensures in
+    worked_settled k _ b m c.requires.nobody c.requires.lost c.quiet_tick.ensures.turn _ c.if-self-eq-COMES_DOWN_AFTER.true r.only r.sound r.low
     (c.quiet_tick.ensures.mirrors _ (mirrors_only k _ b _ r.only m.mirrors refl refl refl r.knows))
 
 pub returns : goal.returns

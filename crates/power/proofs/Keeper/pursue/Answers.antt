@@ -1,5 +1,5 @@
 use Rattle.std.proofs.Common.{refl, arith}
-use Rattle.power.proofs.Pursuing.{only_self, pursued-five, pursued_spent, pursued_done, pursued_stuck, mirrors_only}
+use Rattle.power.proofs.Pursuing.{only_self, pursued_five, pursued_spent, pursued_done, pursued_stuck, mirrors_only}
 use Rattle.power.proofs.Keeper.pursue.Goals as goal
 
 pub returns-in-Err : goal.returns-in-Err
@@ -7,7 +7,7 @@ returns-in-Err g c =
     let b = g.P.Parts.board c.args.b.now in
     let t = c.in-Err.ensures in
     record {
-      pursued = pursued-five b c.take.new.self.aims c.args.x.n c.args.l.n t.aims;
+      pursued = pursued_five b c.take.new.self.aims c.args.x.n c.args.l.n t.aims;
       only = only_self b;
       sound = c.requires.sound;
       mirrors = mirrors_only c.args.self.now _ b b (only_self b) c.requires.mirrors refl refl refl c.requires.mirrors.knows;

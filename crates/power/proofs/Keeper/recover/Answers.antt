@@ -1,4 +1,4 @@
-use Rattle.std.proofs.Common.{◌≡◌, ◌≤◌, sym, refl, ◌∙◌, subst, arith}
+use Rattle.std.proofs.Common.{◌≤◌, sym, refl, subst, arith}
 use Rattle.power.specs.declared.state.Driver.{Driver}
 use Rattle.power.specs.Board.{Board}
 use Rattle.power.specs.Tables.{hit_at}

@@ -1,9 +1,7 @@
 use Rattle.std.proofs.Common.{◌≡◌, ℕ, T, sym, refl, ap, ◌∙◌, subst, inl, inr, arith}
 use Rattle.std.proofs.lemmas.Bool.{cases_lt}
 use Rattle.power.specs.Board.{total, draw_at}
-use Rattle.power.specs.Tables.{at, side_at}
-use Rattle.power.specs.Found.{part_fits}
-use Rattle.power.specs.Least.{settled}
+use Rattle.power.specs.Tables.{at}
 use Rattle.power.proofs.Totals.{total_next}
 use Rattle.power.proofs.Fitted.{all_fit, one_unfit}
 use Rattle.power.proofs.least.draws.Goals as goal
@@ -13,11 +11,11 @@ unfolding total
 loop-n-init g c = (λ x h. absurd (omega arith), refl, omega arith)
 
 pub returns-in-None : goal.returns-in-None
-returns-in-None g c = one_unfit (settled (side_at c.args.sides.now) (g.P.Parts.board c.args.b.now)) (at c.args.ls.now) c.loop-n.n (omega arith) c.in-None.ensures
+returns-in-None g c = one_unfit (g.P.Parts.board c.args.b.now) (at c.args.ls.now) c.loop-n.n (omega arith) c.in-None.ensures
 
 pub loop-n-preserved : goal.loop-n-preserved
 loop-n-preserved g c =
-    let b = settled (side_at c.args.sides.now) (g.P.Parts.board c.args.b.now) in
+    let b = g.P.Parts.board c.args.b.now in
     let f = at c.args.ls.now in
     let n = c.loop-n.n in
     let one = c.in-Some.ensures in (
@@ -31,6 +29,6 @@ loop-n-preserved g c =
 
 pub returns : goal.returns
 returns g c =
-    let b = settled (side_at c.args.sides.now) (g.P.Parts.board c.args.b.now) in
+    let b = g.P.Parts.board c.args.b.now in
     let all : c.loop-n.n ≡ b.parts = omega arith in
     (all_fit b (at c.args.ls.now) c.requires.low (λ x i. c.loop-n.invariant.0 x (omega arith)), c.loop-n.invariant.1 ∙ ap (λ (n : ℕ). total n (λ x. draw_at b x (at c.args.ls.now x))) all)

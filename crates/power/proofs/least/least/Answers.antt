@@ -1,5 +1,4 @@
-use Rattle.power.specs.Tables.{at, side_at}
-use Rattle.power.specs.Least.{settled}
+use Rattle.power.specs.Tables.{at}
 use Rattle.power.proofs.Fitted.{can, cannot}
 use Rattle.power.proofs.least.least.Goals as goal
 
@@ -7,11 +6,11 @@ pub returns-then-allowed : goal.returns-then-allowed
 returns-then-allowed g c =
     let s = c.in_ok-ls.ensures in
     record {
-      can = can (settled (side_at c.args.sides.now) (g.P.Parts.board c.args.b.now)) (at c.args.want.now) (at c.in_ok-ls.ls) c.allowed.result s.same c.allowed.ensures c.if-allowed.true;
+      can = can (g.P.Parts.board c.args.b.now) (at c.args.want.now) (at c.in_ok-ls.ls) c.allowed.result s.same c.allowed.ensures c.if-allowed.true;
       same = s.same;
       low = s.low;
     }
 
 pub returns-else-allowed : goal.returns-else-allowed
 returns-else-allowed g c =
-    cannot (settled (side_at c.args.sides.now) (g.P.Parts.board c.args.b.now)) (at c.args.want.now) (at c.in_ok-ls.ls) c.allowed.result c.in_ok-ls.ensures.same c.allowed.ensures c.if-allowed.false
+    cannot (g.P.Parts.board c.args.b.now) (at c.args.want.now) (at c.in_ok-ls.ls) c.allowed.result c.in_ok-ls.ensures.same c.allowed.ensures c.if-allowed.false

@@ -1,7 +1,7 @@
 use Rattle.std.proofs.Common.{ℕ, ◌<◌, ◌≤◌}
-use Rattle.power.specs.Board.{on_of, most_of, needs_by}
-use Rattle.power.specs.Tables.{at, side_at}
+use Rattle.power.specs.Board.{on_of, most_of}
+use Rattle.power.specs.Tables.{at}
 use Rattle.power.proofs.least.needs_fit.Given as goal
 
 abbrev pub invariant-loop-k : goal.invariant-loop-k
-invariant-loop-k g l = (j : ℕ) → j < l.k → at l.ls (on_of j (needs_by (g.P.Parts.board l.b) (side_at l.sides) l.x.n)) ≤ most_of j (needs_by (g.P.Parts.board l.b) (side_at l.sides) l.x.n)
+invariant-loop-k g l = (j : ℕ) → j < l.k → at l.ls (on_of j ((g.P.Parts.board l.b).needs l.x.n)) ≤ most_of j ((g.P.Parts.board l.b).needs l.x.n)

@@ -4,13 +4,13 @@ use Rattle.power.proofs.state.Driver.answered.Goals as goal
 pub returns-then-k-eq-NOT_GOOD : goal.returns-then-k-eq-NOT_GOOD
 returns-then-k-eq-NOT_GOOD c b u k =
     let six = six_is c.args.a _ c.in-No.is c.if-k-eq-NOT_GOOD.true in
-    record { parts = shows_six c.args.self.now.mirror c.anew.new.self b u c.args.a six c.anew.ensures k.parts; sides = k.sides; left = k.left }
+    record { parts = shows_six c.args.self.now.mirror c.anew.new.self b u c.args.a six c.anew.ensures k.parts; left = k.left }
 
 pub returns-else-k-eq-NOT_GOOD : goal.returns-else-k-eq-NOT_GOOD
 returns-else-k-eq-NOT_GOOD c b u k =
     let other = six_not c.args.a _ c.in-No.is c.if-k-eq-NOT_GOOD.false in
-    record { parts = shows_told c.args.self.now.mirror b u c.args.a other k.parts; sides = k.sides; left = k.left }
+    record { parts = shows_told c.args.self.now.mirror b u c.args.a other k.parts; left = k.left }
 
 pub returns-in_default : goal.returns-in_default
 returns-in_default c b u k =
-    record { parts = shows_told c.args.self.now.mirror b u c.args.a (done_not_six c.args.a c.in_default.is) k.parts; sides = k.sides; left = k.left }
+    record { parts = shows_told c.args.self.now.mirror b u c.args.a (done_not_six c.args.a c.in_default.is) k.parts; left = k.left }

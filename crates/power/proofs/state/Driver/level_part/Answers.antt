@@ -1,4 +1,4 @@
-use Rattle.std.proofs.Common.{sym, refl, ap, ◌∙◌, arith}
+use Rattle.std.proofs.Common.{refl, ap, arith}
 use Rattle.power.specs.Board.{Board, On, put}
 use Rattle.power.specs.declared.state.PartState.TheVariants as state
 use Rattle.power.proofs.Puts.{put_here, put_other}
@@ -15,7 +15,6 @@ returns g c =
       spends = omega arith;
       knows = record {
         parts = shows_step c.args.self.now.mirror c.put.new.self b (put x (On v.n) b.part) b.tried _ x (state.On v) c.requires.knows.parts c.args.x.below c.put.ensures c.level.ensures (put_here x (On v.n) b.part) tt (put_other x (On v.n) b.part) (λ j ne. refl);
-        sides = λ z. c.requires.knows.sides z ∙ sym (ap (λ (d : Board). d.choice z) c.level.ensures);
         left = omega (arith, c.requires.knows.left, ap (λ (d : Board). d.left) c.level.ensures);
       };
     }

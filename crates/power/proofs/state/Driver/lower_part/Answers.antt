@@ -1,4 +1,4 @@
-use Rattle.std.proofs.Common.{sym, ap, ◌∙◌, arith}
+use Rattle.std.proofs.Common.{ap, arith}
 use Rattle.power.specs.Board.{Board, Off, put}
 use Rattle.power.specs.declared.state.PartState.TheVariants as state
 use Rattle.power.proofs.Puts.{put_here, put_other}
@@ -14,7 +14,6 @@ returns g c =
       spends = omega arith;
       knows = record {
         parts = shows_step c.args.self.now.mirror c.put.new.self b (put x Off b.part) (put x 0 b.tried) _ x state.Off c.requires.knows.parts c.args.x.below c.put.ensures c.lower.ensures (put_here x Off b.part) tt (put_other x Off b.part) (put_other x 0 b.tried);
-        sides = λ z. c.requires.knows.sides z ∙ sym (ap (λ (d : Board). d.choice z) c.lower.ensures);
         left = omega (arith, c.requires.knows.left, ap (λ (d : Board). d.left) c.lower.ensures);
       };
     }

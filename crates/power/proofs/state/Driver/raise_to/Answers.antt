@@ -1,5 +1,4 @@
-use Rattle.std.proofs.Common.{◌≡◌, ℕ, Bool, sym, ap, ◌∙◌, subst, arith}
-use Rattle.power.specs.Board.{MayRaise}
+use Rattle.std.proofs.Common.{arith}
 use Rattle.power.specs.Tables.{at}
 use Rattle.power.proofs.OnePart.{off_is, on_is}
 use Rattle.power.proofs.Shown.{part_shown, tried_shown}
@@ -12,10 +11,8 @@ raise_part-requires g c =
     let i = c.loop-self.invariant in
     let b = g.P.Parts.board c.loop-self.b in
     let off = off_is _ (part_shown c.loop-self.self.mirror b c.args.x.n _ i.2.parts c.in-Off.ensures) in
-    let x = c.args.x.n in
-    let side : c.get-in-Off.result ≡ b.made x = c.get-in-Off.ensures ∙ c.requires.made x ∙ sym (ap (λ (f : ℕ → Bool). f x) i.0.only.made) in
     record {
-      may = subst (λ (d : Bool). MayRaise b x d) (sym side) ((up_steps b (at c.args.ceiling.now) (at c.args.goal.now) x (omega (arith, i.0.only.parts, c.requires.part)) i.1).0
+      may = ((up_steps b (at c.args.ceiling.now) (at c.args.goal.now) c.args.x.n (omega (arith, i.0.only.parts, c.requires.part)) i.1).0
           (omega (arith, i.2.left)) off (omega (arith, c.get-l.ensures))).0;
       can = omega arith;
       knows = i.2;
@@ -26,11 +23,9 @@ loop-self-preserved-in-Off g c =
     let i = c.loop-self.invariant in
     let b = g.P.Parts.board c.loop-self.b in
     let off = part_shown c.loop-self.self.mirror b c.args.x.n _ i.2.parts c.in-Off.ensures in
-    let x = c.args.x.n in
-    let side : c.get-in-Off.result ≡ b.made x = c.get-in-Off.ensures ∙ c.requires.made x ∙ sym (ap (λ (f : ℕ → Bool). f x) i.0.only.made) in
     let r =
     raises_on (at c.args.ceiling.now) (at c.args.goal.now) _ _ _ b c.args.x.n i.0 i.1 (omega (arith, i.0.only.parts, c.requires.part)) (omega (arith, c.get-l.ensures))
-    _ c.raise_part.ensures.spends _ (omega (arith, i.2.left)) off c.get-in-Off.result side c.raise_part.ensures.does in
+    _ c.raise_part.ensures.spends _ (omega (arith, i.2.left)) off c.raise_part.ensures.does in
     (r.0, r.1, c.raise_part.ensures.knows)
 
 pub loop-self-preserved-in-Rising : goal.loop-self-preserved-in-Rising

@@ -1,4 +1,4 @@
-use Rattle.std.proofs.Common.{◌+◌, cond, ltb, sym, refl, ap, ◌∙◌, arith}
+use Rattle.std.proofs.Common.{◌+◌, cond, ltb, refl, ap, ◌∙◌, arith}
 use Rattle.power.specs.Board.{Board, On, put}
 use Rattle.power.proofs.Puts.{put_here, put_other}
 use Rattle.power.proofs.OnePart.{rising_is}
@@ -20,7 +20,6 @@ returns-then-good g c =
       knows = record {
         parts = shows_step c.args.self.now.mirror c.put.new.self b (put x (On 1) b.part) b.tried _ x _ c.requires.knows.parts c.args.x.below c.put.ensures e
             (put_here x (On 1) b.part) tt (put_other x (On 1) b.part) (λ j ne. refl);
-        sides = λ z. c.requires.knows.sides z ∙ sym (ap (λ (d : Board). d.choice z) e);
         left = omega (arith, c.requires.knows.left, ap (λ (d : Board). d.left) e);
       };
     }
@@ -40,7 +39,6 @@ returns-else-good g c =
         parts = shows_step m c.put-else-good.new.self b b.part (put x t b.tried) _ x _ c.requires.knows.parts c.args.x.below c.put-else-good.ensures e
             (part_shown m b x _ c.requires.knows.parts c.requires.rises) (put_here x t b.tried ∙ once_more (b.tried x) c.args.tried.n tried c.requires.few)
             (λ j ne. refl) (put_other x t b.tried);
-        sides = λ z. c.requires.knows.sides z ∙ sym (ap (λ (d : Board). d.choice z) e);
         left = omega (arith, c.requires.knows.left, ap (λ (d : Board). d.left) e);
       };
     }
