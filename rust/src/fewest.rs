@@ -122,8 +122,8 @@ pub fn of_input(input: &[u8]) -> Result<Counts, Failure> {
     count(input, &output)
 }
 
-/// The input is of one plan, each tick for those who wait stands alone, and `bad` and `slow` come when nobody is served. No part gives way.
-/// The output keeps the rules.
+/// The input is of one plan, each tick for those who wait stands alone, and `bad` and `slow` come when nobody is served. The output keeps
+/// the rules.
 fn count(input: &[u8], output: &[u8]) -> Result<Counts, Failure> {
     let mut output = std::str::from_utf8(output).map_err(|_| Failure::Unclear)?.split_terminator('\n').peekable();
     let mut draft = Draft::new();
@@ -147,7 +147,6 @@ fn count(input: &[u8], output: &[u8]) -> Result<Counts, Failure> {
                 watch.line = number;
                 watch.ticks(u64::from(ticks), &happenings)?;
             }
-            (Some(_), Some(Line::Script(ScriptLine::Fall(_)))) => return Err(Failure::Unclear),
             (Some(watch), Some(Line::Script(line @ (ScriptLine::Bad(_) | ScriptLine::Slow(..))))) => watch.mood(&line)?,
             (Some(watch), line) => {
                 open = false;
@@ -412,7 +411,6 @@ impl Watch {
                 self.counts.sixes += 1;
                 self.rises.iter_mut().for_each(|rise| rise.tried = 0);
             }
-            Answer::Lost => return Err(Failure::Unclear),
         }
         self.counts.down += served.down;
         if served.had && answer == Answer::Done {

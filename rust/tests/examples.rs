@@ -1,6 +1,6 @@
-//! The boards in `examples`, and what the program `buoy` is run with.
+//! The boards in `examples`.
 
-use buoy::{plain, play, trial};
+use buoy::{play, trial};
 use std::fs;
 use std::path::Path;
 
@@ -19,18 +19,6 @@ fn keep_the_rules() {
         }
     }
     assert!(count > 0);
-}
-
-/// What the plain keeper prints is what `buoy` has to.
-#[test]
-fn the_programs_run() {
-    let folder = Path::new(env!("CARGO_MANIFEST_DIR")).join("../crates/buoy");
-    let read = |name| fs::read(folder.join(name)).expect("it can be read");
-    let (input, output) = (read("stdin"), read("stdout"));
-    assert!(plain::play(&input) == output, "crates/buoy/stdout is what is printed for crates/buoy/stdin");
-    if let Err(failure) = trial::of_input(&input) {
-        panic!("{failure}");
-    }
 }
 
 /// Two that can't be together, one after the other.

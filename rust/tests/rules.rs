@@ -109,10 +109,10 @@ fn parts_that_are_slow_or_bad() {
 
 #[test]
 fn time() {
-    passes("0_want_3_1 tick_511 32_give", "taken away_1");
-    finds(Broken::Late, "0_want_3_1 tick_512 32_give", "taken away_1");
-    passes("0_want_3_1 tick_511 32_give tick_1", "taken away_1 raise_3 good_3 0_done");
-    finds(Broken::Late, "0_want_3_1 tick_511 32_give tick_1", "taken away_1 raise_3 good_3");
+    passes("0_want_3_1 tick_255 32_give", "taken away_1");
+    finds(Broken::Late, "0_want_3_1 tick_256 32_give", "taken away_1");
+    passes("0_want_3_1 tick_255 32_give tick_1", "taken away_1 raise_3 good_3 0_done");
+    finds(Broken::Late, "0_want_3_1 tick_255 32_give tick_1", "taken away_1 raise_3 good_3");
 }
 
 #[test]

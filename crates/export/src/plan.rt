@@ -1,5 +1,5 @@
 // A plan, and the least for what is wanted of it.
-ghost use Rattle.std.specs.Prelude.{◌≡◌, ℕ, ◌<◌, ◌≤◌, min, length, slice_index};
+ghost use Rattle.std.specs.Prelude.{◌≡◌, ℕ, ◌<◌, ◌≤◌, length, slice_index};
 ghost use Rattle.power.specs.Tables.{at};
 
 use play::plans::read_board;
@@ -24,13 +24,13 @@ fn want_at(wants: &[u32], n: u32) -> u32
     }
 }
 
-// A level for each part: those of a slice, and 0 past its end. No level above 15 can be, so 255 stands for all that are higher.
+// A level for each part: those of a slice, and 0 past its end.
 fn levels_of(wants: &[u32]) -> Levels
-    ensures { (x : ℕ) → x < 64 → at result x ≡ min (slice_index wants.now x) 255 }
+    ensures { (x : ℕ) → x < 64 → at result x ≡ slice_index wants.now x }
 {
     let mut levels = Levels::new();
     for n in 0..64 {
-        levels.put(PartId { n }, want_at(wants, n).min(255));
+        levels.put(PartId { n }, want_at(wants, n));
     }
     levels
 }

@@ -26,18 +26,17 @@ Drafted d None = (d.spoilt ≡ true) ⊎ (good_plan (board_for d.plan) ≡ false
 abbrev pub Unchanged : Draft → Draft → Type 0
 Unchanged d e = (e.plan ≡ d.plan) × (e.spoilt ≡ d.spoilt)
 
--- what each line of a plan comes to; p is the part that it tells of, if it does
-abbrev pub Heeded : Line → PlanPart → Step → Draft → Draft → Type 0
-Heeded (line.Part x) p r d e = (r ≡ More) × Added x p d e
-Heeded (line.Unfit x) p r d e = (r ≡ More) × (e.plan ≡ d.plan) × (e.spoilt ≡ true)
-Heeded line.Run p r d e = (r ≡ Whole) × Unchanged d e
-Heeded line.New p r d e = (r ≡ More) × (e.plan.parts ≡ 0) × (e.plan.gives ≡ 4294967295) × (e.spoilt ≡ false)
-Heeded (line.Gives n) p r d e = (r ≡ More) × (e.plan.parts ≡ d.plan.parts) × (e.plan.part ≡ d.plan.part) × (e.plan.gives ≡ n) × (e.spoilt ≡ d.spoilt)
-Heeded (line.Want u x l) p r d e = (r ≡ Unclear) × Unchanged d e
-Heeded (line.Give u) p r d e = (r ≡ Unclear) × Unchanged d e
-Heeded (line.Tick n) p r d e = (r ≡ Unclear) × Unchanged d e
-Heeded (line.Bad x) p r d e = (r ≡ Unclear) × Unchanged d e
-Heeded (line.Slow x n) p r d e = (r ≡ Unclear) × Unchanged d e
-Heeded (line.Fall x) p r d e = (r ≡ Unclear) × Unchanged d e
-Heeded line.Least p r d e = (r ≡ Unclear) × Unchanged d e
-Heeded line.Drawn p r d e = (r ≡ Unclear) × Unchanged d e
+-- what each line of a plan comes to
+abbrev pub Heeded : Line → Step → Draft → Draft → Type 0
+Heeded (line.Part x p) r d e = (r ≡ More) × Added x p d e
+Heeded (line.Unfit x) r d e = (r ≡ More) × (e.plan ≡ d.plan) × (e.spoilt ≡ true)
+Heeded line.Run r d e = (r ≡ Whole) × Unchanged d e
+Heeded line.New r d e = (r ≡ More) × (e.plan.parts ≡ 0) × (e.plan.gives ≡ 4294967295) × (e.spoilt ≡ false)
+Heeded (line.Gives n) r d e = (r ≡ More) × (e.plan.parts ≡ d.plan.parts) × (e.plan.part ≡ d.plan.part) × (e.plan.gives ≡ n) × (e.spoilt ≡ d.spoilt)
+Heeded (line.Want u x l) r d e = (r ≡ Unclear) × Unchanged d e
+Heeded (line.Give u) r d e = (r ≡ Unclear) × Unchanged d e
+Heeded (line.Tick n) r d e = (r ≡ Unclear) × Unchanged d e
+Heeded (line.Bad x) r d e = (r ≡ Unclear) × Unchanged d e
+Heeded (line.Slow x n) r d e = (r ≡ Unclear) × Unchanged d e
+Heeded line.Least r d e = (r ≡ Unclear) × Unchanged d e
+Heeded line.Drawn r d e = (r ≡ Unclear) × Unchanged d e

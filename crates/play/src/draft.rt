@@ -33,14 +33,14 @@ impl Draft {
     }
 
     // Part x comes next, if parts come in their order and are no more than 64.
-    pub fn add(&mut self, x: u32, part: &PlanPart)
-        ensures { Added x part.now self.old self.new }
+    pub fn add(&mut self, x: u32, part: PlanPart)
+        ensures { Added x part self.old self.new }
     {
         if x != self.plan.parts {
             self.spoil();
             return;
         }
-        if self.plan.add(*part).is_err() {
+        if self.plan.add(part).is_err() {
             self.spoil();
         }
     }
@@ -65,12 +65,12 @@ impl Draft {
         }
     }
 
-    // A line of the plan, and the part that it tells of, if it does.
-    pub fn heed(&mut self, line: Line, part: &PlanPart) -> Step
-        ensures { Heeded line part.now result self.old self.new }
+    // A line of the plan.
+    pub fn heed(&mut self, line: Line) -> Step
+        ensures { Heeded line result self.old self.new }
     {
         match line {
-            Line::Part(x) => self.add(x, part),
+            Line::Part(x, part) => self.add(x, part),
             Line::Unfit(_) => self.spoil(),
             Line::Gives(n) => self.plan.set_gives(n),
             Line::New => *self = Draft::new(),

@@ -16,7 +16,7 @@ pub fn read_board<L: Lines>(lines: &mut L) -> Option<Sim>
     let mut draft = Draft::new();
     for _ in 0..u64::MAX {
         let step = match reader.next(lines) {
-            Input::Says(line) => draft.heed(line, reader.part()),
+            Input::Says(line) => draft.heed(line),
             Input::Unclear => Step::Unclear,
             Input::Ended => Step::Whole,
         };

@@ -36,7 +36,7 @@ fn read_plan<L: Lines, S: Say>(lines: &mut L, reader: &mut Reader, out: &mut S) 
     let mut draft = Draft::new();
     for _ in 0..u64::MAX {
         let step = match reader.next(lines) {
-            Input::Says(line) => draft.heed(line, reader.part()),
+            Input::Says(line) => draft.heed(line),
             Input::Unclear => Step::Unclear,
             Input::Ended => return Planned::Ended,
         };
@@ -82,7 +82,6 @@ fn run<L: Lines, S: Say>(sim: Sim, lines: &mut L, reader: &mut Reader, out: &mut
         reader,
         out,
         ticks: 0,
-        falling: None,
         renewed: false,
     };
     days(&mut stage, u64::MAX);

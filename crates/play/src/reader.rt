@@ -7,7 +7,6 @@ use script::buffer::LineBuffer;
 use script::line::Line;
 use script::lines::Lines;
 use script::read::read_line;
-use sim::plan::PlanPart;
 
 // What comes next: a line, something that is none, or the end.
 #[derive(Clone, Copy)]
@@ -17,11 +16,10 @@ pub enum Input {
     Ended,
 }
 
-// Room for a line and for the part that it tells of, and how many were read.
+// Room for a line, and how many were read.
 #[derive(Drop)]
 pub struct Reader {
     line: LineBuffer,
-    part: PlanPart,
     number: u64,
 }
 
@@ -31,7 +29,6 @@ impl Reader {
     {
         Reader {
             line: LineBuffer::new(),
-            part: PlanPart::none(),
             number: 0,
         }
     }
@@ -39,7 +36,7 @@ impl Reader {
     // The next line of these.
     pub fn next<L: Lines>(&mut self, lines: &mut L) -> Input
         ensures counts { self.new.number ≡ number_after result self.old.number }
-        ensures reads { (bs : List ℕ) → Buffered self.new.line bs → Reads self.new.part bs result }
+        ensures reads { (bs : List ℕ) → Buffered self.new.line bs → Reads bs result }
     {
         if !lines.next_line(&mut self.line) {
             return Input::Ended;
@@ -48,17 +45,10 @@ impl Reader {
         let Some(text) = self.line.text() else {
             return Input::Unclear;
         };
-        match read_line(text, &mut self.part) {
+        match read_line(text) {
             Ok(line) => Input::Says(line),
             Err(_) => Input::Unclear,
         }
-    }
-
-    // What the part draws and needs that the last line told of.
-    pub fn part(&self) -> &PlanPart
-        ensures { result.now ≡ self.now.part }
-    {
-        &self.part
     }
 
     // The number of the last line, from 1.

@@ -1,8 +1,7 @@
 // A board in memory whose users' calls are lines, and which says what is done to it and told.
-ghost use Rattle.std.specs.Prelude.{◌≡◌, ◌&&◌, None};
-ghost use Rattle.power.specs.Board.{Between};
-ghost use Rattle.sim.specs.Boards.{board_of, may_fall};
-ghost use Rattle.play.specs.Stages.{calls_for, ticks_after, falling_after, fell_of, is_none, Settled};
+ghost use Rattle.std.specs.Prelude.{◌≡◌};
+ghost use Rattle.sim.specs.Boards.{board_of};
+ghost use Rattle.play.specs.Stages.{calls_for, ticks_after};
 
 use super::reader::{Input, Reader};
 use power::{Answer, Call, Next, Parts, World};
@@ -11,7 +10,7 @@ use script::line::Line;
 use script::lines::Lines;
 use sim::state::Sim;
 
-// `ticks` are still to come before the next line; `falling` gives way before the next tick; `renewed` says that the script ended with `new`.
+// `ticks` are still to come before the next line; `renewed` says that the script ended with `new`.
 #[derive(Drop)]
 pub struct Stage<'a, 'b, 'c, L, S> {
     pub sim: Sim,
@@ -19,14 +18,13 @@ pub struct Stage<'a, 'b, 'c, L, S> {
     pub reader: &'b mut Reader,
     pub out: &'c mut S,
     pub ticks: u32,
-    pub falling: Option<u32>,
     pub renewed: bool,
 }
 
 impl<L: Lines, S: Say> Stage<'_, '_, '_, L, S> {
     // The last line is no line here.
     fn unclear(&mut self)
-        ensures { (self.new.sim ≡ self.old.sim) × (self.new.ticks ≡ self.old.ticks) × (self.new.falling ≡ self.old.falling) × (self.new.renewed ≡ self.old.renewed) }
+        ensures { (self.new.sim ≡ self.old.sim) × (self.new.ticks ≡ self.old.ticks) × (self.new.renewed ≡ self.old.renewed) }
     {
         let number = self.reader.number();
         self.out.say(Event::NoLine(number));
@@ -34,7 +32,7 @@ impl<L: Lines, S: Say> Stage<'_, '_, '_, L, S> {
 
     // The least for what is granted. (There always is one: what was granted can be.)
     fn say_least(&mut self)
-        ensures { (self.new.sim ≡ self.old.sim) × (self.new.ticks ≡ self.old.ticks) × (self.new.falling ≡ self.old.falling) × (self.new.renewed ≡ self.old.renewed) }
+        ensures { (self.new.sim ≡ self.old.sim) × (self.new.ticks ≡ self.old.ticks) × (self.new.renewed ≡ self.old.renewed) }
     {
         match self.sim.least_granted() {
             Ok(levels) => self
@@ -46,32 +44,10 @@ impl<L: Lines, S: Say> Stage<'_, '_, '_, L, S> {
 
     // What all parts draw now.
     fn say_drawn(&mut self)
-        ensures { (self.new.sim ≡ self.old.sim) × (self.new.ticks ≡ self.old.ticks) × (self.new.falling ≡ self.old.falling) × (self.new.renewed ≡ self.old.renewed) }
+        ensures { (self.new.sim ≡ self.old.sim) × (self.new.ticks ≡ self.old.ticks) × (self.new.renewed ≡ self.old.renewed) }
     {
         let sum = self.sim.drawn();
         self.out.say(Event::Drawn(sum));
-    }
-
-    // Part x may be the next to fall: it may, and no other is to.
-    fn may_fall(&self, x: u32) -> bool
-        ensures { result ≡ (is_none self.now.falling && may_fall (board_of self.now.sim) x) }
-    {
-        self.falling.is_none() && self.sim.may_fall(x)
-    }
-
-    // The part that is to give way does.
-    fn let_fall(&mut self)
-        ensures board { board_of self.new.sim ≡ fell_of self.old.falling (board_of self.old.sim) }
-        ensures falls { self.new.falling ≡ None }
-    {
-        let Some(x) = self.falling else {
-            return;
-        };
-        self.falling = None;
-        if self.sim.may_fall(x) {
-            self.sim.fall(x);
-            self.out.say(Event::Fell(x));
-        }
     }
 
     // What a line of the script calls for now, if anything.
@@ -79,7 +55,6 @@ impl<L: Lines, S: Say> Stage<'_, '_, '_, L, S> {
         ensures board { board_of self.new.sim ≡ board_of self.old.sim }
         ensures calls { result ≡ calls_for line }
         ensures ticks { self.new.ticks ≡ ticks_after line self.old.ticks }
-        ensures falls { self.new.falling ≡ falling_after line (board_of self.old.sim) self.old.falling }
     {
         match line {
             Line::Want(u, x, l) => return Some(Next::Calls(Call::Want(u, x, l))),
@@ -96,34 +71,11 @@ impl<L: Lines, S: Say> Stage<'_, '_, '_, L, S> {
             }
             Line::Bad(x) if x < self.sim.parts() => self.sim.bad(x),
             Line::Slow(x, n) if x < self.sim.parts() => self.sim.slow(x, n),
-            Line::Fall(x) if self.may_fall(x) => self.falling = Some(x),
             Line::Least => self.say_least(),
             Line::Drawn => self.say_drawn(),
             _ => self.unclear(),
         }
         None
-    }
-
-    // What the script calls for next.
-    fn called_for(&mut self) -> Next
-        ensures { board_of self.new.sim ≡ board_of self.old.sim }
-    {
-        if self.ticks > 0 {
-            self.ticks -= 1;
-            return Next::Tick;
-        }
-        for _ in 0..u64::MAX {
-            match self.reader.next(self.lines) {
-                Input::Ended => return Next::Over,
-                Input::Unclear => self.unclear(),
-                Input::Says(line) => {
-                    if let Some(next) = self.heed(line) {
-                        return next;
-                    }
-                }
-            }
-        }
-        Next::Over
     }
 }
 
@@ -180,25 +132,26 @@ impl<L: Lines, S: Say> Parts for Stage<'_, '_, '_, L, S> {
         self.sim.level(x, v);
         self.out.say(Event::Level(x, v));
     }
-
-    fn fell(&mut self, x: u32) -> bool {
-        self.sim.fell(x)
-    }
 }
 
 impl<L: Lines, S: Say> World for Stage<'_, '_, '_, L, S> {
-    // Before a tick the part that is to give way does.
-    fn next(&mut self) -> Next
-        ensures board { Between (board_of self.old.sim) result (board_of self.new.sim) }
-        ensures falls { Settled result self.new.falling }
-    {
-        match self.called_for() {
-            Next::Tick => {
-                self.let_fall();
-                Next::Tick
-            }
-            next => next,
+    fn next(&mut self) -> Next {
+        if self.ticks > 0 {
+            self.ticks -= 1;
+            return Next::Tick;
         }
+        for _ in 0..u64::MAX {
+            match self.reader.next(self.lines) {
+                Input::Ended => return Next::Over,
+                Input::Unclear => self.unclear(),
+                Input::Says(line) => {
+                    if let Some(next) = self.heed(line) {
+                        return next;
+                    }
+                }
+            }
+        }
+        Next::Over
     }
 
     fn said(&mut self, c: Call, no: u32) {

@@ -2,11 +2,10 @@
 use Rattle.std.proofs.Common.{◌≡◌, ℕ, ◌+◌, ◌*◌, ◌<◌, ◌≤◌, not, T, ◌≢◌, sym, refl, ap, ◌∙◌, subst, inl, inr, arith, T_not}
 use Rattle.std.proofs.lemmas.Bool.{cases_eq, lt-ltb}
 use Rattle.std.proofs.lemmas.Bool.Decides.{nat_tests}
-use Rattle.power.specs.Board.{Board, Wish, None', Asked, Granted, Lost, is_asked, is_none, put, with_wish, young, older, ticked, told, told_of, is_six, AtStart}
+use Rattle.power.specs.Board.{Board, Wish, None', Asked, Granted, is_asked, is_none, put, with_wish, young, older, ticked, told, told_of, AtStart}
 use Rattle.power.specs.Cost.{costs}
-use Rattle.power.specs.Moves.{OnlyParts}
 use Rattle.power.specs.Rota.{next_of, moved_on, dist}
-use Rattle.power.specs.Ages.{goal, phi, turn_cost, Aged, Bears}
+use Rattle.power.specs.Ages.{goal, phi, turn_cost, Aged}
 use Rattle.power.specs.declared.Answer.{Answer}
 use Rattle.power.specs.declared.Answer.TheVariants.{Done, No}
 use Rattle.power.proofs.Puts.{put_same, put_other}
@@ -43,30 +42,20 @@ unfolding turn_cost
 turn_top b None' = omega arith
 turn_top b (Asked x l g) = phi_top b (goal b x l)
 turn_top b (Granted x l) = omega arith
-turn_top b Lost = omega arith
 
 turn_none : (b : Board) (w : Wish) → T (is_none w) → turn_cost b w ≡ 5056
 unfolding turn_cost is_none
 turn_none b None' t = refl
 turn_none b (Asked x l g) t = absurd t
 turn_none b (Granted x l) t = absurd t
-turn_none b Lost t = absurd t
 
 turn_asked : (b : Board) (w : Wish) (x l g : ℕ) → w ≡ Asked x l g → turn_cost b w ≡ phi b (goal b x l)
 unfolding turn_cost
 turn_asked b w x l g e = ap (turn_cost b) e
 
-turn_ticked : (b : Board) (w : Wish) → turn_cost (ticked b) (older w) ≡ turn_cost b w
+turn_ticked : (b : Board) (w : Wish) (x l g : ℕ) → w ≡ Asked x l g → turn_cost (ticked b) (older w) ≡ phi b (goal b x l)
 unfolding turn_cost older
-turn_ticked b None' = refl
-turn_ticked b (Asked x l g) = refl
-turn_ticked b (Granted x l) = refl
-turn_ticked b Lost = refl
-
--- who lost something costs nothing less when told
-turn_lost : (b : Board) (w : Wish) → w ≡ Lost → turn_cost b w ≡ 5056
-unfolding turn_cost
-turn_lost b w e = ap (turn_cost b) e
+turn_ticked b w x l g e = ap (λ v. turn_cost (ticked b) (older v)) e
 
 -- it doesn't hang on what others want
 turn_wish : (b : Board) (u : ℕ) (y w : Wish) → turn_cost (with_wish u y b) w ≡ turn_cost b w
@@ -74,26 +63,16 @@ unfolding turn_cost
 turn_wish b u y None' = refl
 turn_wish b u y (Asked x l g) = refl
 turn_wish b u y (Granted x l) = refl
-turn_wish b u y Lost = refl
-
--- nor on who is told 7
-turn_told : (b : Board) (u : ℕ) (w : Wish) → turn_cost (told u (No 7) b) w ≡ turn_cost b w
-unfolding turn_cost is_six
-turn_told b u None' = refl
-turn_told b u (Asked x l g) = refl
-turn_told b u (Granted x l) = refl
-turn_told b u Lost = refl
 
 -- NOBODY HAS WAITED TOO LONG
-pub aged_young : (t : ℕ) (b : Board) → b.calm ≤ 4096 → Aged t b → (u : ℕ) → u < 32 → T (young (b.wish u))
+pub aged_young : (t : ℕ) (b : Board) → Aged t b → (u : ℕ) → u < 32 → T (young (b.wish u))
 unfolding young
-aged_young t b calm a u h = go (b.wish u) refl
+aged_young t b a u h = go (b.wish u) refl
   where
     go : (w : Wish) → b.wish u ≡ w → T (young w)
     go None' e = tt
-    go (Asked x l g) e = let q : g < 512 = omega (arith, a u x l g h e) in rw (lt-ltb g 512 q) tt
+    go (Asked x l g) e = let q : g < 256 = omega (arith, a u x l g h e) in rw (lt-ltb g 256 q) tt
     go (Granted x l) e = tt
-    go Lost e = tt
 
 pub aged_start : (t : ℕ) (b : Board) → AtStart b → Aged t b
 aged_start t b s u x l g lu e = absurd (none_asked x l g (sym (s.3 u) ∙ e))
@@ -107,14 +86,14 @@ pub aged_moved :
     (t h : ℕ) (b : Board) → t < 32 → h < 32 → ((u : ℕ) → u < 32 → T (is_asked (b.wish u)) → dist t h ≤ dist t u) → Aged t b → Aged h b
 aged_moved t h b lt lh first a u x l g lu e =
     elim (cases_eq h t) [
-      | inl q ↦ subst (λ (s : ℕ). 1014 * g + turn_cost b (b.wish s) + 6080 * dist s u + 1024 * b.owed ≤ 226304 + 10 * b.calm) (sym q) (a u x l g lu e)
+      | inl q ↦ subst (λ (s : ℕ). 1024 * g + turn_cost b (b.wish s) + 6080 * dist s u ≤ 193536) (sym q) (a u x l g lu e)
       | inr ne ↦
           omega (arith, a u x l g lu e, turn_top b (b.wish h), dist_some t h lt lh ne, dist_move t h u lt lh lu (first u lu (is_asked_lem (b.wish u) x l g e)))
     ]
 
 -- CALLS
-pub aged_want : (t u x l : ℕ) (b : Board) → t < 32 → u < 32 → b.owed ≤ 32 → T (is_none (b.wish u)) → Aged t b → Aged t (with_wish u (Asked x l 0) b)
-aged_want t u x l b lt lu owed none a v y m g lv e =
+pub aged_want : (t u x l : ℕ) (b : Board) → t < 32 → u < 32 → T (is_none (b.wish u)) → Aged t b → Aged t (with_wish u (Asked x l 0) b)
+aged_want t u x l b lt lu none a v y m g lv e =
     let w = Asked x l 0 in
     let b' = with_wish u w b in
     let less : turn_cost b' (put u w b.wish t) ≤ turn_cost b (b.wish t) =
@@ -137,10 +116,10 @@ aged_give t u b lt lu a v y m g lv e =
     let old = a v y m g lv (sym (put_other u None' b.wish v ne) ∙ e) in
     elim (cases_eq t u) [
       | inl q ↦
-          subst (λ (s : ℕ). 1014 * g + turn_cost b' (put u None' b.wish s) + 6080 * dist s v + 1024 * b.owed ≤ 226304 + 10 * b.calm) (sym (moved_self u t q))
+          subst (λ (s : ℕ). 1024 * g + turn_cost b' (put u None' b.wish s) + 6080 * dist s v ≤ 193536) (sym (moved_self u t q))
           (omega (arith, old, dist_next t v lt lv (λ (z : v ≡ t). ne (z ∙ q)), turn_top b' (put u None' b.wish (next_of t))))
       | inr nt ↦
-          subst (λ (s : ℕ). 1014 * g + turn_cost b' (put u None' b.wish s) + 6080 * dist s v + 1024 * b.owed ≤ 226304 + 10 * b.calm) (sym (moved_other u t nt))
+          subst (λ (s : ℕ). 1024 * g + turn_cost b' (put u None' b.wish s) + 6080 * dist s v ≤ 193536) (sym (moved_other u t nt))
           (omega (arith, old, ap (turn_cost b') (put_other u None' b.wish t nt), turn_wish b u None' (b.wish t)))
     ]
 
@@ -152,58 +131,26 @@ told_gone w x l g (No k) y m c e d = none_asked y m c (sym (ap (λ v. told_of v 
 
 -- the head is told
 pub aged_told :
-    (h : ℕ) (a : Answer) (b b' : Board) (x l g : ℕ) → h < 32 → OnlyParts b b' → b.wish h ≡ Asked x l g → Aged h b → Aged (next_of h) (ticked (told h a b'))
-aged_told h a b b' x l g lh only w k v y m c lv e =
-    let same = only.wish in
+    (h : ℕ) (a : Answer) (b b' : Board) (x l g : ℕ) → h < 32 → b'.wish ≡ b.wish → b.wish h ≡ Asked x l g → Aged h b → Aged (next_of h) (ticked (told h a b'))
+aged_told h a b b' x l g lh same w k v y m c lv e =
     let tw = told_of (b'.wish h) a in
     let o = older_asked (put h tw b'.wish v) y m c e in
     let ne : v ≢ h = λ q. told_gone (b'.wish h) x l g a y m o.0 (ap (λ f. f h) same ∙ w) (sym (put_same h tw b'.wish v q) ∙ o.1) in
     let old = k v y m o.0 lv (sym (ap (λ f. f v) same) ∙ sym (put_other h tw b'.wish v ne) ∙ o.1) in
-    omega (arith, old, o.2, only.calm, only.owed, dist_next h v lh lv ne, turn_top (ticked (told h a b')) ((ticked (told h a b')).wish (next_of h)))
+    omega (arith, old, o.2, dist_next h v lh lv ne, turn_top (ticked (told h a b')) ((ticked (told h a b')).wish (next_of h)))
 
 -- nobody is told: all askings went into the head's goal
 pub aged_spent :
-    (h : ℕ) (b b' : Board) (x l g : ℕ) → OnlyParts b b' → b.wish h ≡ Asked x l g → costs b (goal b x l) ≤ 5056 → costs b' (goal b' x l) + 1024 ≤ costs b (goal b x l) →
+    (h : ℕ) (b b' : Board) (x l g : ℕ) → b'.wish ≡ b.wish → b.wish h ≡ Asked x l g → costs b (goal b x l) ≤ 5056 → costs b' (goal b' x l) + 1024 ≤ costs b (goal b x l) →
     Aged h b → Aged h (ticked b')
-aged_spent h b b' x l g only w top spent k v y m c lv e =
-    let same = only.wish in
+aged_spent h b b' x l g same w top spent k v y m c lv e =
     let o = older_asked (b'.wish v) y m c e in
     let old = k v y m o.0 lv (sym (ap (λ f. f v) same) ∙ o.1) in
-    let now = turn_ticked b' (b'.wish h) ∙ turn_asked b' (b'.wish h) x l g (ap (λ f. f h) same ∙ w) in
-    omega (arith, old, o.2, now, only.calm, only.owed, turn_asked b (b.wish h) x l g w, phi_is b (goal b x l) top, phi_is b' (goal b' x l) (omega arith))
+    let now = turn_ticked b' (b'.wish h) x l g (ap (λ f. f h) same ∙ w) in
+    omega (arith, old, o.2, now, turn_asked b (b.wish h) x l g w, phi_is b (goal b x l) top, phi_is b' (goal b' x l) (omega arith))
 
 -- nobody waits
 pub aged_still : (t : ℕ) (b : Board) → ((u : ℕ) → u < 32 → T (not (is_asked (b.wish u)))) → Aged t (ticked b)
 aged_still t b n v y m c lv e =
     let o = older_asked (b.wish v) y m c e in
     absurd (T_not (is_asked (b.wish v)) (n v lv) (is_asked_lem (b.wish v) y m o.0 o.1))
-
--- A 7 IS DUE, OR A PART FELL: a tick that does nothing for those who wait is borne
-pub bears_owed : (t : ℕ) (b : Board) → 1 ≤ b.owed → Aged t b → Bears t b
-bears_owed t b h a u x l g lu e = omega (arith, a u x l g lu e)
-
--- c is the board before the fall
-pub bears_fallen :
-    (t : ℕ) (c b : Board) → c.calm ≡ 0 → b.calm ≡ 4096 → b.owed ≤ 32 → ((u x l g : ℕ) → b.wish u ≡ Asked x l g → c.wish u ≡ Asked x l g) → Aged t c → Bears t b
-bears_fallen t c b z calm owed asked a u x l g lu e = omega (arith, a u x l g lu (asked u x l g e), turn_top b (b.wish t))
-
-pub aged_bears : (t : ℕ) (b : Board) → Bears t b → Aged t (ticked b)
-aged_bears t b k v y m c lv e =
-    let o = older_asked (b.wish v) y m c e in
-    omega (arith, k v y m o.0 lv o.1, o.2, turn_ticked b (b.wish t))
-
--- u is told 7
-pub aged_seven : (t u : ℕ) (b : Board) → b.wish u ≡ Lost → Bears t b → Aged t (ticked (told u (No 7) b))
-unfolding told_of
-aged_seven t u b w bears v y m c lv e =
-    let none : told_of (b.wish u) (No 7) ≡ None' = ap (λ z. told_of z (No 7)) w in
-    let tw = told_of (b.wish u) (No 7) in
-    let b' = told u (No 7) b in
-    let o = older_asked (put u tw b.wish v) y m c e in
-    let ne : v ≢ u = λ q. none_asked y m o.0 (sym none ∙ sym (put_same u tw b.wish v q) ∙ o.1) in
-    let less : turn_cost b' (put u tw b.wish t) ≤ turn_cost b (b.wish t) =
-    elim (cases_eq t u) [
-      | inl q ↦ omega (arith, turn_top b' (put u tw b.wish t), turn_lost b (b.wish t) (subst (λ (s : ℕ). b.wish s ≡ Lost) (sym q) w))
-      | inr nt ↦ omega (arith, ap (turn_cost b') (put_other u tw b.wish t nt), turn_told b u (b.wish t))
-    ] in
-    omega (arith, bears v y m o.0 lv (sym (put_other u tw b.wish v ne) ∙ o.1), o.2, less, turn_ticked b' (put u tw b.wish t))

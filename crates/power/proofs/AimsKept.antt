@@ -2,7 +2,7 @@
 use Rattle.std.proofs.Common.{◌≡◌, ℕ, ◌≤◌, T, sym, ◌∙◌, subst, arith}
 use mathlib.Core.Path.{fun_ext}
 use Rattle.power.specs.declared.types.Aims.{Aims}
-use Rattle.power.specs.Board.{Board, Wish, None', Asked, Granted, Lost, is_asked, can_be, granted, and_also, good_plan, with_wish, ticked}
+use Rattle.power.specs.Board.{Board, Wish, None', Asked, Granted, is_asked, can_be, granted, and_also, good_plan, with_wish, ticked}
 use Rattle.power.specs.Sound.{Sound}
 use Rattle.power.specs.Tables.{at}
 use Rattle.power.specs.Moves.{OnlyParts}
@@ -50,7 +50,7 @@ fewer_granted b u w n y =
     granted_le (with_wish u w b) y (granted b y) (λ i v hi.
     put_each (λ (j : ℕ) (z : Wish). z ≡ Granted y v → v ≤ granted b y) u w b.wish i (λ _ e. absurd (n y v e)) (λ _ e. granted_at b i y v hi e))
 
-pub also_fewer : (f g : ℕ → ℕ) (x l y : ℕ) → f y ≤ g y → and_also f x l y ≤ and_also g x l y
+also_fewer : (f g : ℕ → ℕ) (x l y : ℕ) → f y ≤ g y → and_also f x l y ≤ and_also g x l y
 also_fewer f g x l y h =
     and_also_le f x l y (and_also g x l y) (omega (arith, and_also_more g x l y)) (λ e. subst (λ (z : ℕ). l ≤ and_also g x l z) e (and_also_this g x l))
 
@@ -75,10 +75,8 @@ unfolding is_asked
 aims_asked b a None' h = h
 aims_asked b a (Asked x l g) h = tt
 aims_asked b a (Granted x l) h = h
-aims_asked b a Lost h = h
 
 pub aims_for_wish : (b : Board) (u : ℕ) (w : Wish) (a : Aims) (v : Wish) → T (good_plan b) → ((y m : ℕ) → w ≡ Granted y m → ⊥) → AimsFor b a v → AimsFor (with_wish u w b) a v
 aims_for_wish b u w a None' p n h = h
 aims_for_wish b u w a (Asked x l g) p n h = aims_wish b u w a x l p n h
 aims_for_wish b u w a (Granted x l) p n h = h
-aims_for_wish b u w a Lost p n h = h

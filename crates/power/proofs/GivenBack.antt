@@ -8,7 +8,6 @@ use Rattle.power.specs.declared.Keeper.{Keeper}
 use Rattle.power.specs.Board.{Board, Wish, None', is_none, why, called}
 use Rattle.power.specs.Refused.{number_of}
 use Rattle.power.specs.Kept.{Kept}
-use Rattle.power.specs.Guards.{AfterDrop}
 use Rattle.power.proofs.Tests.{is_true}
 use Rattle.power.proofs.Puts.{put_here}
 use Rattle.power.proofs.Calls.{called_away, called_give, why_no_such, why_nobody, why_give}
@@ -52,9 +51,8 @@ want_refused k u x l b e w t m =
     let n : T (is_none ((called (Want u x l) b).wish u)) = subst (λ (c : Board). T (is_none (c.wish u))) (sym d) t in
     subst (λ (c : Board). Kept k c) (sym (give_nothing u (called (Want u x l) b) n)) m
 
--- the guard, not spent, holds what u wants of this very keeper k, and leaves it as `after`, which is what its owner sees then
+-- the guard holds what u wants of this very keeper k, and leaves it as `after`, which is what its owner sees then
 pub dropped :
-    (k held after seen : Keeper) (u v : ℕ) (s : Bool) (b : Board) → held ≡ k → v ≡ u → s ≡ false → AfterDrop s v held after → seen ≡ after → Kept k b → Kept seen (called (Give u) b)
-dropped k held after seen u v s b ek ev es h e m =
-    let give : (d : Board) → Kept held d → Kept after (called (Give v) d) = subst (λ (q : Bool). AfterDrop q v held after) es h in
-    subst (λ (i : Keeper). Kept i (called (Give u) b)) (sym e) (subst (λ (i : ℕ). Kept after (called (Give i) b)) ev (give b (subst (λ (i : Keeper). Kept i b) (sym ek) m)))
+    (k held after seen : Keeper) (u v : ℕ) (b : Board) → held ≡ k → v ≡ u → ((d : Board) → Kept held d → Kept after (called (Give v) d)) → seen ≡ after → Kept k b → Kept seen (called (Give u) b)
+dropped k held after seen u v b ek ev h e m =
+    subst (λ (i : Keeper). Kept i (called (Give u) b)) (sym e) (subst (λ (i : ℕ). Kept after (called (Give i) b)) ev (h b (subst (λ (i : Keeper). Kept i b) (sym ek) m)))

@@ -5,7 +5,7 @@ use Rattle.power.specs.Board.{Board, Wish, larger, most, want_of, granted, and_a
 use Rattle.power.specs.Mirrors.{Says, SaysAll, wanted_by}
 use Rattle.power.specs.Grants.{grant_of, granted_by}
 use Rattle.power.specs.declared.state.Wanted.{Wanted}
-use Rattle.power.specs.declared.state.Wanted.TheVariants.{Nothing, Asked, Granted, Lost}
+use Rattle.power.specs.declared.state.Wanted.TheVariants.{Nothing, Asked, Granted}
 use Rattle.power.specs.declared.state.Wishes.{Wishes}
 use Rattle.power.specs.declared.types.PartId.{PartId}
 use Rattle.power.specs.declared.types.Level.{Level}
@@ -33,7 +33,6 @@ pub grant_none : (f : ℕ → ℕ) (w : Wanted) (x : ℕ) → ((p : PartId) (l :
 grant_none f Nothing x n = larger_none (f x)
 grant_none f (Asked p l) x n = larger_none (f x)
 grant_none f (Granted p l) x n = absurd (n p l refl)
-grant_none f Lost x n = larger_none (f x)
 
 -- as the board has it
 most_same : (n : ℕ) (f g : ℕ → ℕ) → ((u : ℕ) → f u ≡ g u) → most n f ≡ most n g
@@ -46,7 +45,6 @@ unfolding want_of
 grant_said x Nothing v s = sym (ap (want_of x) s)
 grant_said x (Asked p l) v s = sym (ap (want_of x) s.1)
 grant_said x (Granted p l) v s = sym (ap (want_of x) s)
-grant_said x Lost v s = sym (ap (want_of x) s)
 
 pub granted_said : (ws : Wishes) (b : Board) → SaysAll ws b → (x : ℕ) → granted_by 32 ws x ≡ granted b x
 granted_said ws b s x = most_same 32 _ _ (λ u. grant_said x (wanted_by ws u) (b.wish u) (s u))

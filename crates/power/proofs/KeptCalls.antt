@@ -1,10 +1,10 @@
 -- The keeper's invariant: at the start, and after a call. Assumes nothing.
-use Rattle.std.proofs.Common.{◌≡◌, ℕ, ◌<◌, false, not, T, ◌≢◌, replicate, sym, ◌∙◌, subst, arith}
+use Rattle.std.proofs.Common.{◌≡◌, ℕ, ◌<◌, false, T, ◌≢◌, replicate, sym, ◌∙◌, subst, arith}
 use Rattle.power.specs.declared.Call.{Call}
 use Rattle.power.specs.declared.Keeper.{Keeper}
 use Rattle.power.specs.declared.types.Aims.{Aims}
 use Rattle.power.specs.declared.state.Wanted.TheVariants as wanted
-use Rattle.power.specs.Board.{Board, Wish, None', Asked, Granted, Lost, is_none, is_asked, is_lost, put, with_wish, why, called, AtStart}
+use Rattle.power.specs.Board.{Board, Wish, None', Asked, Granted, is_none, is_asked, put, with_wish, why, called, AtStart}
 use Rattle.power.specs.Sound.{Sound}
 use Rattle.power.specs.Mirrors.{Knows, SaysAll}
 use Rattle.power.specs.Ages.{Aged}
@@ -14,16 +14,11 @@ use Rattle.power.proofs.OneWish.{granted_asked, none_granted}
 use Rattle.power.proofs.Puts.{put_other}
 use Rattle.power.proofs.Calls.{called_away}
 use Rattle.power.proofs.Said.{says_start}
-use Rattle.power.proofs.Losses.{losses_none, losses_wish}
 use Rattle.power.proofs.SoundUsers.{sound_start, sound_called}
 use Rattle.power.proofs.Ages.{moved_other, aged_start, aged_want, aged_give}
 use Rattle.power.proofs.AimsKept.{aims_asked, aims_for_wish}
 
 -- THE START
-start_lost : (w : Wish) → w ≡ None' → T (not (is_lost w))
-unfolding is_lost
-start_lost w e = rw e tt
-
 pub kept_start :
     (k : Keeper) (b : Board) → AtStart b → k.parts ≡ b.parts → Knows k.driver b → k.wishes.wanted ≡ replicate 32 wanted.Nothing → k.turn.aiming ≡ false → k.idle ≡ 0 → Kept k b
 kept_start k b s ep h ew et ei =
@@ -37,11 +32,6 @@ kept_start k b s ep h ew et ei =
       low = λ q. absurd (omega (arith, z));
       aged = aged_start k.turn.user.n b s;
       aims = λ t. absurd (subst T et t);
-      unmarked = λ x. (s.6 x).0;
-      unhit = λ x. (s.6 x).1;
-      calm = s.7;
-      owes = omega (arith, losses_none b (λ u hu. start_lost (b.wish u) (s.3 u)));
-      owed = omega (arith, s.8);
     }
 
 -- A CALL IS TURNED AWAY
@@ -57,9 +47,9 @@ mirrors_wish k k' b u w m ep ed ei s =
     record { parts = ep ∙ m.parts; few = omega (arith, m.few); knows = rw ed (knows_wish k b u w m.knows); says = s; idle = ei }
 
 kept_wish :
-    (k k' : Keeper) (b : Board) (u : ℕ) (w : Wish) (c : Call) → Kept k b → called c b ≡ with_wish u w b → T (not (is_lost w)) → Mirrors k' (with_wish u w b) → Aged k'.turn.user.n (with_wish u w b) →
+    (k k' : Keeper) (b : Board) (u : ℕ) (w : Wish) (c : Call) → Kept k b → called c b ≡ with_wish u w b → Mirrors k' (with_wish u w b) → Aged k'.turn.user.n (with_wish u w b) →
     (T k'.turn.aiming → AimsFor (with_wish u w b) k'.turn.aims (put u w b.wish k'.turn.user.n)) → Kept k' (called c b)
-kept_wish k k' b u w c m e l h a t =
+kept_wish k k' b u w c m e h a t =
     let s = sound_called b c m.sound in
     subst (λ (d : Board). Sound d → Kept k' d) (sym e) (λ (s : Sound (with_wish u w b)). record {
       mirrors = h;
@@ -70,11 +60,6 @@ kept_wish k k' b u w c m e l h a t =
       low = λ q. absurd (omega arith);
       aged = a;
       aims = t;
-      unmarked = m.unmarked;
-      unhit = m.unhit;
-      calm = m.calm;
-      owes = omega (arith, losses_wish b u w l, m.owes);
-      owed = m.owed;
     }) s
 
 asked_some : (w : Wish) → T (is_asked w) → T (is_none w) → ⊥
@@ -82,17 +67,15 @@ unfolding is_asked is_none
 asked_some None' t n = t
 asked_some (Asked x l g) t n = n
 asked_some (Granted x l) t n = n
-asked_some Lost t n = n
 
 module _ (k k' : Keeper) (b : Board) (u : ℕ) (lu : u < 32) (m : Kept k b) (ep : k'.parts ≡ k.parts) (ed : k'.driver ≡ k.driver) (ei : k'.idle ≡ 0) where
   pub kept_want :
       (x l : ℕ) (c : Call) → called c b ≡ with_wish u (Asked x l 0) b → T (is_none (b.wish u)) → SaysAll k'.wishes (with_wish u (Asked x l 0) b) → k'.turn ≡ k.turn → Kept k' (called c b)
-  unfolding is_lost
   kept_want x l c e none s et =
       let w = Asked x l 0 in
       let t = k.turn.user.n in
-      kept_wish k k' b u w c m e tt (mirrors_wish k k' b u w m.mirrors ep ed ei s)
-      (rw et (aged_want t u x l b k.turn.user.below lu m.owed none m.aged))
+      kept_wish k k' b u w c m e (mirrors_wish k k' b u w m.mirrors ep ed ei s)
+      (rw et (aged_want t u x l b k.turn.user.below lu none m.aged))
       (rw et (λ h.
       let a = m.aims h in
       let ne : t ≢ u = λ q. asked_some (b.wish t) (aims_asked b k.turn.aims (b.wish t) a) (subst (λ (v : ℕ). T (is_none (b.wish v))) (sym q) none) in
@@ -100,10 +83,9 @@ module _ (k k' : Keeper) (b : Board) (u : ℕ) (lu : u < 32) (m : Kept k b) (ep 
       (aims_for_wish b u w k.turn.aims (b.wish t) m.sound.plan (λ y v q. granted_asked y v x l 0 (sym q)) a)))
 
   pub kept_give : (c : Call) → called c b ≡ with_wish u None' b → SaysAll k'.wishes (with_wish u None' b) → DoneWith u k.turn k'.turn → Kept k' (called c b)
-  unfolding is_lost
   kept_give c e s d =
       let t = k.turn.user.n in
-      kept_wish k k' b u None' c m e tt (mirrors_wish k k' b u None' m.mirrors ep ed ei s)
+      kept_wish k k' b u None' c m e (mirrors_wish k k' b u None' m.mirrors ep ed ei s)
       (rw d.user (aged_give t u b k.turn.user.below lu m.aged))
       (λ h.
       let q = d.aims h in

@@ -1,5 +1,5 @@
 -- The keeper's invariant after a tick's work: when nobody waits, and for the first who does. Assumes nothing.
-use Rattle.std.proofs.Common.{◌≡◌, ℕ, ◌+◌, ◌-◌, ◌<◌, ◌≤◌, Bool, false, not, T, ltb, ◌≢◌, Some, None, sym, refl, ap, ◌∙◌, subst, inl, inr, arith, lt→ltb, T_not}
+use Rattle.std.proofs.Common.{◌≡◌, ℕ, ◌+◌, ◌<◌, ◌≤◌, not, T, ltb, ◌≢◌, Some, None, sym, refl, ap, ◌∙◌, subst, inl, inr, arith, lt→ltb, T_not}
 use Rattle.std.proofs.lemmas.Bool.{cases_lt}
 use Rattle.std.proofs.lemmas.Bool.Decides.{nat_tests}
 use Rattle.power.specs.declared.Answer.{Answer}
@@ -10,28 +10,26 @@ use Rattle.power.specs.declared.state.Turn.{Turn}
 use Rattle.power.specs.declared.state.Wanted.{Wanted}
 use Rattle.power.specs.declared.state.Wanted.TheVariants as wanted
 use Rattle.power.specs.declared.Keeper.{Keeper}
-use Rattle.power.specs.Board.{Board, Wish, Asked, is_asked, is_lost, count, losses, put, lean, young, may_tell, may_tell_of, told, told_of, older, ticked}
+use Rattle.power.specs.Board.{Board, Wish, Asked, is_asked, put, lean, young, may_tell, may_tell_of, told, told_of, older, ticked}
 use Rattle.power.specs.Sound.{Sound}
 use Rattle.power.specs.Moves.{OnlyParts}
 use Rattle.power.specs.Mirrors.{Knows, Says, SaysAll, wanted_by}
 use Rattle.power.specs.Rota.{next_of, dist, NobodyWaits, IsHead}
 use Rattle.power.specs.Ages.{Aged}
 use Rattle.power.specs.Turns.{AimsAt, AimsFor, DoneWith}
-use Rattle.power.specs.Kept.{Mirrors, Kept, NobodyLost, Ready, Pursued, Worked}
+use Rattle.power.specs.Kept.{Mirrors, Kept, Pursued, Worked}
 use Rattle.power.proofs.Tests.{and_i}
 use Rattle.power.proofs.Puts.{put_each}
 use Rattle.power.proofs.Said.{says_ticked, asked_waits, nobody_asked, waits_asked}
-use Rattle.power.proofs.Losses.{losses_none, losses_told, losses_ticked}
 use Rattle.power.proofs.SoundUsers.{sound_told, sound_ticked}
 use Rattle.power.proofs.Ages.{is_asked_lem, moved_self, aged_young, aged_moved, aged_told, aged_spent, aged_still}
 use Rattle.power.proofs.Quiet.{quiet_still, lean_ticked, lean_soon, lean_late, in_time_soon, in_time_lean}
 use Rattle.power.proofs.AimsKept.{aims_of, aims_for, aims_asked, aims_ticked}
 
-pub kept_ticked :
+kept_ticked :
     (k : Keeper) (b : Board) → Mirrors k (ticked b) → Sound b → (32 < (ticked b).quiet → T (lean b)) → Aged k.turn.user.n (ticked b) →
-    (T k.turn.aiming → AimsFor (ticked b) k.turn.aims (older (b.wish k.turn.user.n))) →
-    ((x : ℕ) → b.fell x ≡ false) → b.calm ≤ 4096 → losses b ≤ b.owed - 1 → b.owed ≤ 32 → Kept k (ticked b)
-kept_ticked k b m s l a t unmarked calm owes owed =
+    (T k.turn.aiming → AimsFor (ticked b) k.turn.aims (older (b.wish k.turn.user.n))) → Kept k (ticked b)
+kept_ticked k b m s l a t =
     record {
       mirrors = m;
       sound = sound_ticked b s;
@@ -41,56 +39,41 @@ kept_ticked k b m s l a t unmarked calm owes owed =
       low = λ q. lean_ticked b (l q);
       aged = a;
       aims = t;
-      unmarked = unmarked;
-      unhit = λ x. refl;
-      calm = omega arith;
-      owes = omega (arith, losses_ticked b);
-      owed = omega arith;
     }
 
-young_only : (t : ℕ) (b b' : Board) → OnlyParts b b' → b.calm ≤ 4096 → Aged t b → (u : ℕ) → u < 32 → T (young (b'.wish u))
-young_only t b b' o calm a u hu = subst (λ (f : ℕ → Wish). T (young (f u))) (sym o.wish) (aged_young t b calm a u hu)
+young_only : (t : ℕ) (b b' : Board) → OnlyParts b b' → Aged t b → (u : ℕ) → u < 32 → T (young (b'.wish u))
+young_only t b b' o a u hu = subst (λ (f : ℕ → Wish). T (young (f u))) (sym o.wish) (aged_young t b a u hu)
 
 -- NOBODY WAITS, while it is quiet
 pub quiet_nobody : (k : Keeper) (b : Board) → Kept k b → 0 < k.idle → NobodyWaits k.wishes 0 32
 quiet_nobody k b m h u z hu w =
     T_not (is_asked (b.wish u)) (m.still (omega (arith, m.mirrors.idle)) u hu) (waits_asked k.wishes b u m.mirrors.says w)
 
--- a walk leaves who lost something, and what is marked
-lost_only : (b b' : Board) → OnlyParts b b' → losses b' ≡ losses b
-lost_only b b' o = ap (λ (f : ℕ → Wish). count 32 (λ (u : ℕ). is_lost (f u))) o.wish
-
-unmarked_only : (b b' : Board) → OnlyParts b b' → ((x : ℕ) → b.fell x ≡ false) → (x : ℕ) → b'.fell x ≡ false
-unmarked_only b b' o n x = ap (λ (f : ℕ → Bool). f x) o.fell ∙ n x
-
-module _ (k k' : Keeper) (b : Board) (r : Ready k b) (nobody : NobodyWaits k.wishes 0 32) (lost : NobodyLost b) (et : k'.turn ≡ k.turn) where
+module _ (k k' : Keeper) (b : Board) (m : Kept k b) (nobody : NobodyWaits k.wishes 0 32) (et : k'.turn ≡ k.turn) where
   none : (u : ℕ) → u < 32 → T (not (is_asked (b.wish u)))
-  none = nobody_asked k.wishes b r.mirrors.says nobody
+  none = nobody_asked k.wishes b m.mirrors.says nobody
 
   not_aiming : T k.turn.aiming → ⊥
   not_aiming t =
       let u = k.turn.user.n in
-      T_not (is_asked (b.wish u)) (none u k.turn.user.below) (aims_asked b k.turn.aims (b.wish u) (r.aims t))
+      T_not (is_asked (b.wish u)) (none u k.turn.user.below) (aims_asked b k.turn.aims (b.wish u) (m.aims t))
 
   pub worked_settled : (b' : Board) → k.idle ≡ 32 → OnlyParts b b' → Sound b' → T (lean b') → Mirrors k' (ticked b') → Worked None k' b'
   worked_settled b' e o s l h =
-      let still = λ (u : ℕ) (hu : u < 32). subst (λ (f : ℕ → Wish). T (not (is_asked (f u)))) (sym o.wish) (none u hu) in
-      let owes : losses b' ≤ b'.owed - 1 = omega (arith, lost_only b b' o, losses_none b lost) in (
-        in_time_soon b' s (λ u hu. subst (λ (f : ℕ → Wish). T (young (f u))) (sym o.wish) (r.young u hu)) owes (omega (arith, e, r.mirrors.idle, o.quiet)),
-        kept_ticked k' b' h s (λ _. l) (aged_still k'.turn.user.n b' still) (rw et (λ t. absurd (not_aiming t)))
-            (unmarked_only b b' o r.unmarked) (omega (arith, o.calm, r.calm)) owes (omega (arith, o.owed, r.owed)),
+      let still = λ (u : ℕ) (hu : u < 32). subst (λ (f : ℕ → Wish). T (not (is_asked (f u)))) (sym o.wish) (none u hu) in (
+        in_time_soon b' (young_only k.turn.user.n b b' o m.aged) (omega (arith, e, m.mirrors.idle, o.quiet)),
+        kept_ticked k' b' h s (λ _. l) (aged_still k'.turn.user.n b' still) (rw et (λ t. absurd (not_aiming t))),
       )
 
   pub worked_idle : k.idle ≢ 32 → Mirrors k' (ticked b) → Worked None k' b
   worked_idle ne h =
-      let nq : b.quiet ≢ 32 = λ q. ne (r.mirrors.idle ∙ q) in
-      let owes : losses b ≤ b.owed - 1 = omega (arith, losses_none b lost) in (
+      let y = aged_young k.turn.user.n b m.aged in
+      let nq : b.quiet ≢ 32 = λ q. ne (m.mirrors.idle ∙ q) in (
         elim (cases_lt b.quiet 64) [
-          | inl q ↦ in_time_soon b r.sound r.young owes q
-          | inr q ↦ let l = r.low lost (omega arith) in in_time_lean b r.sound r.young owes l.0 l.1
+          | inl q ↦ in_time_soon b y q
+          | inr q ↦ in_time_lean b y (m.low (omega arith)) (m.fresh (omega arith))
         ],
-        kept_ticked k' b h r.sound (lean_late b nq (λ q. (r.low lost q).0)) (aged_still k'.turn.user.n b none) (rw et (λ t. absurd (not_aiming t)))
-            r.unmarked r.calm owes r.owed,
+        kept_ticked k' b h m.sound (lean_late b nq m.low) (aged_still k'.turn.user.n b none) (rw et (λ t. absurd (not_aiming t))),
       )
 
 -- THE FIRST WHO WAITS
@@ -129,20 +112,16 @@ module _ (k k' : Keeper) (b : Board) (u x l g : ℕ) (m : Kept k b) (lu : u < 32
         | inr q ↦ omega arith
       ]
 
-  module _ (lost : NobodyLost b) (b' : Board) (o : OnlyParts b b') (s : Sound b') where
-    owes : losses b' ≡ 0
-    owes = lost_only b b' o ∙ losses_none b lost
-
+  module _ (b' : Board) (o : OnlyParts b b') (s : Sound b') where
     w' : b'.wish u ≡ Asked x l g
     w' = ap (λ (f : ℕ → Wish). f u) o.wish ∙ w
 
     pub worked_spent : (t : Turn) → k'.turn ≡ t → Pursued None t.aims x l b b' → t.user.n ≡ u → Mirrors k' (ticked b') → Worked None k' b'
     worked_spent t et p e h =
         let q : b'.quiet ≡ 0 = o.quiet ∙ not_quiet in (
-          in_time_soon b' s (young_only u b b' o m.calm aged) (omega (arith, owes)) (omega arith),
-          kept_ticked k' b' h s (lean_soon b' q) (rw (et, e) (aged_spent u b b' x l g o w p.0 p.1 aged))
-              (λ _. rw (et, e) (aims_for (ticked b') t.aims (older (b'.wish u)) x l (g + 1) (older_is (b'.wish u) x l g w') (aims_ticked b' t.aims x l p.2)))
-              (unmarked_only b b' o m.unmarked) (omega (arith, o.calm, m.calm)) (omega (arith, owes)) (omega (arith, o.owed, m.owed)),
+          in_time_soon b' (young_only u b b' o aged) (omega arith),
+          kept_ticked k' b' h s (lean_soon b' q) (rw (et, e) (aged_spent u b b' x l g o.wish w p.0 p.1 aged))
+              (λ _. rw (et, e) (aims_for (ticked b') t.aims (older (b'.wish u)) x l (g + 1) (older_is (b'.wish u) x l g w') (aims_ticked b' t.aims x l p.2))),
         )
 
     pub worked_told :
@@ -152,13 +131,11 @@ module _ (k k' : Keeper) (b : Board) (u x l g : ℕ) (m : Kept k b) (lu : u < 32
         and_i (ltb u 32) (may_tell_of b' (b'.wish u) a) (lt→ltb u 32 lu) (subst (λ (v : Wish). T (may_tell_of b' v a)) (sym w') (p g)) in
         let y : (v : ℕ) → v < 32 → T (young (put u (told_of (b'.wish u) a) b'.wish v)) =
         λ v lv. put_each (λ (i : ℕ) (z : Wish). T (young z)) u (told_of (b'.wish u) a) b'.wish v
-        (λ _. subst (λ (z : Wish). T (young (told_of z a))) (sym w') (young_told x l g a)) (λ _. young_only u b b' o m.calm aged v lv) in
-        let less : losses (told u a b') ≤ b'.owed - 1 = omega (arith, losses_told b' u a, owes) in
+        (λ _. subst (λ (z : Wish). T (young (told_of z a))) (sym w') (young_told x l g a)) (λ _. young_only u b b' o aged v lv) in
         let next : t'.user.n ≡ next_of u = d.user ∙ moved_self u t.user.n e ∙ ap next_of e in (
           may,
-          in_time_soon (told u a b') (sound_told b' u a s may) y less (omega arith),
-          kept_ticked k' (told u a b') h (sound_told b' u a s may) (lean_soon (told u a b') refl) (rw (et, next) (aged_told u a b b' x l g lu o w aged)) (rw et (λ i. absurd ((d.aims i).1 e)))
-              (unmarked_only b b' o m.unmarked) (omega (arith, o.calm, m.calm)) less (omega (arith, o.owed, m.owed)),
+          in_time_soon (told u a b') y (omega arith),
+          kept_ticked k' (told u a b') h (sound_told b' u a s may) (lean_soon (told u a b') refl) (rw (et, next) (aged_told u a b b' x l g lu o.wish w aged)) (rw et (λ i. absurd ((d.aims i).1 e))),
         )
 
 -- A TELLING, AND A TICK, as the keeper knows them

@@ -3,7 +3,7 @@ use Rattle.std.proofs.Common.{◌≡◌, ℕ, zero, suc, ◌<◌, ◌≤◌, eqb
 use borrow.Author.Tests.{eqb-false}
 use Rattle.std.proofs.lemmas.Bool.{cases_lt, cond_both, cond-true}
 use Rattle.std.proofs.lemmas.Bool.Decides.{nat_tests}
-use Rattle.power.specs.Board.{Board, Wish, None', Asked, Granted, Lost, larger, most, want_of, granted, and_also}
+use Rattle.power.specs.Board.{Board, Wish, None', Asked, Granted, larger, most, want_of, granted, and_also}
 
 pub larger_l : (a b : ℕ) → a ≤ larger a b
 larger_l a b = cond_both (ltb a b) b a (λ (x : ℕ). a ≤ x) (λ e. omega (arith, ltb-true a b e)) (λ e. omega arith)
@@ -48,7 +48,6 @@ granted_le b x c g = most_le 32 (λ u. want_of x (b.wish u)) c (λ u hu. go u hu
     go : (u : ℕ) → u < 32 → (w : Wish) → b.wish u ≡ w → want_of x w ≤ c
     go u hu None' e = omega arith
     go u hu (Asked y l a) e = omega arith
-    go u hu Lost e = omega arith
     go u hu (Granted y l) e =
         cond_both (eqb x y) l 0 (λ (z : ℕ). z ≤ c)
         (λ d. g u l hu (e ∙ ap (λ (z : ℕ). Granted z l) (sym (eqb-true x y d))))

@@ -7,14 +7,11 @@ pub mod Costs
 pub mod Draws
 pub mod Fitted
 pub mod GivenBack
-pub mod Hanging
 pub mod Granting
 pub mod Joined
 pub mod KeptCalls
-pub mod KeptFalls
 pub mod KeptTicks
 pub mod Larger
-pub mod Losses
 pub mod Lowest
 pub mod Moved
 pub mod NextStep
@@ -26,7 +23,6 @@ pub mod Pursuing
 pub mod Pushing
 pub mod Puts
 pub mod Quiet
-pub mod Recovering
 pub mod Said
 pub mod Settling
 pub mod Sheet
@@ -34,7 +30,6 @@ pub mod Shown
 pub mod SoundLevels
 pub mod SoundSteps
 pub mod SoundUsers
-pub mod Striking
 pub mod Sweeping
 pub mod Sweeps
 pub mod Targets

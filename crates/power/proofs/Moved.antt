@@ -9,11 +9,11 @@ use Rattle.power.proofs.Costs.{each_asking_pays, height_put}
 use Rattle.power.proofs.Sweeps.{down_steps, up_steps}
 
 -- ONLY PARTS
-pub only_then : (a b c : Board) → OnlyParts a b → OnlyParts b c → OnlyParts a c
-only_then a b c p q = record { parts = q.parts ∙ p.parts; needs = q.needs ∙ p.needs; draws = q.draws ∙ p.draws; gives = q.gives ∙ p.gives; wish = q.wish ∙ p.wish; quiet = q.quiet ∙ p.quiet; fell = q.fell ∙ p.fell; hit = q.hit ∙ p.hit; calm = q.calm ∙ p.calm; owed = q.owed ∙ p.owed }
+only_then : (a b c : Board) → OnlyParts a b → OnlyParts b c → OnlyParts a c
+only_then a b c p q = record { parts = q.parts ∙ p.parts; needs = q.needs ∙ p.needs; draws = q.draws ∙ p.draws; gives = q.gives ∙ p.gives; wish = q.wish ∙ p.wish; quiet = q.quiet ∙ p.quiet }
 
-pub only_step : (b : Board) (p : ℕ → Part) (t : ℕ → ℕ) → OnlyParts b (with_parts p t b)
-only_step b p t = record { parts = refl; needs = refl; draws = refl; gives = refl; wish = refl; quiet = refl; fell = refl; hit = refl; calm = refl; owed = refl }
+only_step : (b : Board) (p : ℕ → Part) (t : ℕ → ℕ) → OnlyParts b (with_parts p t b)
+only_step b p t = record { parts = refl; needs = refl; draws = refl; gives = refl; wish = refl; quiet = refl }
 
 -- DOWN
 pub came_down_then : (t : ℕ → ℕ) (n : ℕ) (a : Board) (m : ℕ) (b : Board) (k : ℕ) (c : Board) → CameDown t n a m b → CameDown t m b k c → CameDown t n a k c

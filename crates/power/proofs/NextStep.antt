@@ -3,14 +3,13 @@ use Rattle.std.proofs.Common.{◌≡◌, ℕ, ◌+◌, ◌-◌, ◌<◌, ◌≤�
 use Rattle.power.specs.Board.{Board, Rising, On, on_of, least_of, most_of, is_off, is_on, level_of, MayRaise, MayLower, MayLevel}
 use Rattle.power.specs.Aim.{Fits, Covers, Serves}
 use Rattle.power.specs.Sound.{Has, Sound}
-use Rattle.power.specs.Walk.{Below, Under, Unhit, Reached, DownGoesOn, UpGoesOn}
+use Rattle.power.specs.Walk.{Below, Under, Reached, DownGoesOn, UpGoesOn}
 use Rattle.power.proofs.Tests.{or_l, or_r}
 use Rattle.power.proofs.Plans.{plan_at, least_one}
 use Rattle.power.proofs.Draws.{draws_put}
 use Rattle.power.proofs.Sheet.{served_of, suits_of, unneeded_of, keeps_of, eq→eqb}
 use Rattle.power.proofs.OnePart.{on_off, not_off, high_on, level_rising, level_on}
 use Rattle.power.proofs.SoundLevels.{level_range, level_top}
-use Rattle.power.proofs.SoundSteps.{unhit_not_off}
 
 -- DOWN
 module _ (b : Board) (t : ℕ → ℕ) (s : Sound b) (fit : Fits b t) (cov : Covers b t) (some : 0 < b.left) (y : ℕ) (hy : y < b.parts)
@@ -61,14 +60,13 @@ module _ (b : Board) (t : ℕ → ℕ) (s : Sound b) (fit : Fits b t) (cov : Cov
             (omega arith, omega arith)),
         keeps_of b y v (λ u l hu e. omega (arith, cov u y l hu e)),
         draws_put b (λ z. level_of (b.part z)) s.plan (level_top b s) s.draws (λ z _. omega arith) y (On v) (omega (arith, level_on v)),
-        unhit_not_off b s y hy off,
       )
 
 pub down_goes_on : DownGoesOn
 down_goes_on b t s fit cov some y hy above high = (may_lower b t s fit cov some y hy above high, may_level_down b t s fit cov some y hy above high)
 
 -- UP
-module _ (b : Board) (t l : ℕ → ℕ) (s : Sound b) (unhit : Unhit b) (fit : Fits b t) (ser : Serves b l) (below : Below b t) (under : Under b l t) (some : 0 < b.left)
+module _ (b : Board) (t l : ℕ → ℕ) (s : Sound b) (fit : Fits b t) (ser : Serves b l) (below : Below b t) (under : Under b l t) (some : 0 < b.left)
     (y : ℕ) (hy : y < b.parts) (through : (z : ℕ) → z < y → Reached b l z) where
   -- what y needs is on, high enough for any level up to l y, and not too high
   met : (v : ℕ) → v ≤ l y → 1 ≤ l y → (k : ℕ) → k < length (b.needs y) → Has b.part (b.needs y) k v
@@ -89,7 +87,7 @@ module _ (b : Board) (t l : ℕ → ℕ) (s : Sound b) (unhit : Unhit b) (fit : 
       ((through z zy).1 pos, omega arith, omega arith)
 
   may_raise : T (is_off (b.part y)) → 1 ≤ l y → MayRaise b y
-  may_raise off h = (some, hy, off, served_of b.part (b.needs y) 1 (met 1 h h), draws_put b t s.plan fit.fifteen fit.draws below y Rising (omega (arith, level_rising, under y hy)), unhit y hy)
+  may_raise off h = (some, hy, off, served_of b.part (b.needs y) 1 (met 1 h h), draws_put b t s.plan fit.fifteen fit.draws below y Rising (omega (arith, level_rising, under y hy)))
 
   may_level_up : T (is_on (b.part y)) → level_of (b.part y) < l y → MayLevel b y (level_of (b.part y) + 1)
   may_level_up on h =
@@ -111,9 +109,8 @@ module _ (b : Board) (t l : ℕ → ℕ) (s : Sound b) (unhit : Unhit b) (fit : 
             (omega arith, omega (arith, under y hy))),
         keeps_of b y v (λ u w hu e. omega (arith, (s.holds u y w hu e).3)),
         draws_put b t s.plan fit.fifteen fit.draws below y (On v) (omega (arith, level_on v, under y hy)),
-        unhit y hy,
       )
 
 pub up_goes_on : UpGoesOn
-up_goes_on b t l s unhit fit ser below under some y hy through =
-    (may_raise b t l s unhit fit ser below under some y hy through, may_level_up b t l s unhit fit ser below under some y hy through)
+up_goes_on b t l s fit ser below under some y hy through =
+    (may_raise b t l s fit ser below under some y hy through, may_level_up b t l s fit ser below under some y hy through)

@@ -62,12 +62,6 @@ pub level_off : level_of Off ≡ 0
 unfolding level_of
 level_off = refl
 
-pub off_level : (p : Part) → T (is_off p) → level_of p ≡ 0
-unfolding is_off level_of
-off_level Off t = refl
-off_level Rising t = absurd t
-off_level (On l) t = absurd t
-
 pub level_rising : level_of Rising ≡ 1
 unfolding level_of
 level_rising = refl

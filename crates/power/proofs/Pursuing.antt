@@ -21,7 +21,7 @@ use Rattle.power.proofs.AimsKept.{aims_only}
 
 -- nothing was asked
 pub only_self : (b : Board) → OnlyParts b b
-only_self b = record { parts = refl; needs = refl; draws = refl; gives = refl; wish = refl; quiet = refl; fell = refl; hit = refl; calm = refl; owed = refl }
+only_self b = record { parts = refl; needs = refl; draws = refl; gives = refl; wish = refl; quiet = refl }
 
 pub pursued_five : (b : Board) (a : Aims) (x l : ℕ) → T (not (can_be b (and_also (granted b) x l))) → Pursued (Some (No 5)) a x l b b
 pursued_five b a x l t g = tell_five b x l g t

@@ -1,13 +1,12 @@
 -- What a tick makes of a board: how long it has been quiet, that it stays lean, and that it is in time. Assumes nothing.
-use Rattle.std.proofs.Common.{◌≡◌, ℕ, ◌+◌, ◌-◌, ◌<◌, ◌≤◌, Bool, true, false, cond, not, ◌&&◌, ◌||◌, T, eqb, ltb, leb, ◌≢◌, get_or, sym, refl, ap, subst, arith, le→leb, lt→ltb}
+use Rattle.std.proofs.Common.{◌≡◌, ℕ, ◌+◌, ◌<◌, ◌≤◌, Bool, true, false, cond, not, ◌&&◌, ◌||◌, T, eqb, ltb, ◌≢◌, get_or, sym, refl, ap, subst, arith, lt→ltb}
 use mathlib.Core.Path.{fun_ext}
 use lib.Dec.{not_T}
 use Rattle.std.proofs.lemmas.Bool.{cond_both, cond-true, cond-false}
 use Rattle.std.proofs.lemmas.Bool.Decides.{nat_tests}
-use Rattle.power.specs.Board.{Board, Wish, None', Asked, Granted, Lost, every, some', is_off, is_asked, losses, want_of, most, granted, level_of, least_levels, lean, young, older, ticked, in_time}
-use Rattle.power.specs.Sound.{Sound}
-use Rattle.power.proofs.Tests.{and_i, or_i, or_l, or_r, every_of, none_of, some_of}
-use Rattle.power.proofs.Sheet.{not_not, eq→eqb}
+use Rattle.power.specs.Board.{Board, Wish, None', Asked, Granted, every, some', is_asked, want_of, most, granted, level_of, least_levels, lean, young, older, ticked, in_time}
+use Rattle.power.proofs.Tests.{and_i, or_l, or_r, every_of, none_of, some_of}
+use Rattle.power.proofs.Sheet.{eq→eqb}
 
 -- HOW LONG IT HAS BEEN QUIET
 pub quiet_some : (b : Board) (u : ℕ) → u < 32 → T (is_asked (b.wish u)) → 0 ≡ (ticked b).quiet
@@ -41,7 +40,6 @@ unfolding is_asked older
 older_asks None' t = t
 older_asks (Asked x l g) t = t
 older_asks (Granted x l) t = t
-older_asks Lost t = t
 
 pub quiet_still : (b : Board) → 0 < (ticked b).quiet → (u : ℕ) → u < 32 → T (not (is_asked ((ticked b).wish u)))
 quiet_still b h u lu = older_asks (b.wish u) (not_T (is_asked (b.wish u)) (λ t. omega (arith, quiet_some b u lu t)))
@@ -52,7 +50,6 @@ unfolding want_of older
 want_older x None' = refl
 want_older x (Asked y l g) = refl
 want_older x (Granted y l) = refl
-want_older x Lost = refl
 
 pub granted_ticked : (b : Board) → ◌≡◌ {A = ℕ → ℕ} (granted (ticked b)) (granted b)
 granted_ticked b =
@@ -74,20 +71,12 @@ pub lean_late : (b : Board) → b.quiet ≢ 32 → (32 < b.quiet → T (lean b))
 lean_late b ne l h = l (omega (arith, quiet_up b))
 
 -- IN TIME
-module _ (b : Board) (s : Sound b) (y : (u : ℕ) → u < 32 → T (young (b.wish u))) (owes : losses b ≤ b.owed - 1) where
-  in_time_all : T (ltb b.quiet 64 || (lean b && eqb b.left 1024)) → T (in_time b)
-  in_time_all q =
-      let Y = every 32 (λ (u : ℕ). young (b.wish u)) in
-      let Q = ltb b.quiet 64 || (lean b && eqb b.left 1024) in
-      let H = every b.parts (λ (x : ℕ). not (b.hit x) || is_off (b.part x)) in
-      let O = leb (losses b) (b.owed - 1) in
-      and_i (Y && Q && H) O
-      (and_i (Y && Q) H (and_i Y Q (every_of 32 _ y) q)
-      (every_of b.parts _ (λ x hx. or_i (not (b.hit x)) (is_off (b.part x)) (λ t. s.clear x hx (not_not (b.hit x) t)))))
-      (le→leb (losses b) (b.owed - 1) owes)
+pub in_time_soon : (b : Board) → ((u : ℕ) → u < 32 → T (young (b.wish u))) → b.quiet < 64 → T (in_time b)
+in_time_soon b y h =
+    and_i (every 32 (λ (u : ℕ). young (b.wish u))) (ltb b.quiet 64 || (lean b && eqb b.left 1024)) (every_of 32 _ y)
+    (or_l (ltb b.quiet 64) _ (lt→ltb b.quiet 64 h))
 
-  pub in_time_soon : b.quiet < 64 → T (in_time b)
-  in_time_soon h = in_time_all (or_l (ltb b.quiet 64) _ (lt→ltb b.quiet 64 h))
-
-  pub in_time_lean : T (lean b) → b.left ≡ 1024 → T (in_time b)
-  in_time_lean t e = in_time_all (or_r (ltb b.quiet 64) (lean b && eqb b.left 1024) (and_i (lean b) (eqb b.left 1024) t (eq→eqb b.left 1024 e)))
+pub in_time_lean : (b : Board) → ((u : ℕ) → u < 32 → T (young (b.wish u))) → T (lean b) → b.left ≡ 1024 → T (in_time b)
+in_time_lean b y t e =
+    and_i (every 32 (λ (u : ℕ). young (b.wish u))) (ltb b.quiet 64 || (lean b && eqb b.left 1024)) (every_of 32 _ y)
+    (or_r (ltb b.quiet 64) (lean b && eqb b.left 1024) (and_i (lean b) (eqb b.left 1024) t (eq→eqb b.left 1024 e)))

@@ -34,7 +34,6 @@ unfolding older
 says_older wanted.Nothing v s = ap older s
 says_older (wanted.Asked x l) v s = (s.0 + 1, ap older s.1)
 says_older (wanted.Granted x l) v s = ap older s
-says_older wanted.Lost v s = ap older s
 
 pub says_ticked : (ws : Wishes) (b : Board) → SaysAll ws b → SaysAll ws (ticked b)
 says_ticked ws b s u = says_older (wanted_by ws u) (b.wish u) (s u)
@@ -52,21 +51,18 @@ unfolding is_none
 something_said wanted.Nothing v s h = absurd (h refl)
 something_said (wanted.Asked x l) v s h = ap is_none s.1
 something_said (wanted.Granted x l) v s h = ap is_none s
-something_said wanted.Lost v s h = ap is_none s
 
 waits_said : (w : Wanted) (v : Wish) → Says w v → Waits w → T (is_asked v)
 unfolding is_asked
 waits_said wanted.Nothing v s t = absurd t
 waits_said (wanted.Asked x l) v s t = subst (λ (q : Wish). T (is_asked q)) (sym s.1) tt
 waits_said (wanted.Granted x l) v s t = absurd t
-waits_said wanted.Lost v s t = absurd t
 
 said_waits : (w : Wanted) (v : Wish) → Says w v → T (is_asked v) → Waits w
 unfolding is_asked
 said_waits wanted.Nothing v s t = subst (λ (q : Wish). T (is_asked q)) s t
 said_waits (wanted.Asked x l) v s t = tt
 said_waits (wanted.Granted x l) v s t = subst (λ (q : Wish). T (is_asked q)) s t
-said_waits wanted.Lost v s t = subst (λ (q : Wish). T (is_asked q)) s t
 
 pub waits_asked : (ws : Wishes) (b : Board) (u : ℕ) → SaysAll ws b → Waits (wanted_by ws u) → T (is_asked (b.wish u))
 waits_asked ws b u s = waits_said (wanted_by ws u) (b.wish u) (s u)

@@ -1,8 +1,8 @@
--- Down to the least for what was granted: it always can be, 960 askings are enough, and the board is lean then. Assumes nothing.
+-- Down to the least for what was granted: it always can be, a tick's askings are enough, and the board is lean then. Assumes nothing.
 use Rattle.std.proofs.Common.{◌≡◌, ℕ, ◌≤◌, Bool, true, false, not, T, List, sym, ap, ◌∙◌, subst, arith, T_not}
 use mathlib.Core.Path.{fun_ext}
 use Rattle.power.specs.declared.types.Levels.{Levels}
-use Rattle.power.specs.Board.{Board, Need, Wish, granted, level_of, can_be, lean}
+use Rattle.power.specs.Board.{Board, Need, Wish, granted, can_be, lean}
 use Rattle.power.specs.Sound.{Sound}
 use Rattle.power.specs.Aim.{Fits, Covers}
 use Rattle.power.specs.Walk.{Below}
@@ -13,7 +13,6 @@ use Rattle.power.specs.Moves.{OnlyParts, CameDown, OrSpent}
 use Rattle.power.proofs.Lowest.{cannot_be, least_is_least, least_wanted}
 use Rattle.power.proofs.Aiming.{found_is, found_fits}
 use Rattle.power.proofs.SoundLevels.{covers_granted, granted_can, lean_below}
-use Rattle.power.proofs.Totals.{total_one}
 use Rattle.power.proofs.Costs.{cost_is_bounded}
 
 -- f says what is granted
@@ -34,19 +33,18 @@ module _ (b : Board) (f : ℕ → ℕ) (s : Sound b) (e : (y : ℕ) → f y ≡ 
     same_least : (b' : Board) → OnlyParts b b' → ◌≡◌ {A = ℕ → ℕ} (at to) (lv b' (granted b'))
     same_least b' o =
         let B : ℕ → (ℕ → List Need) → (ℕ → Wish) → Board =
-        λ n ns ws. record { parts = n; needs = ns; draws = b'.draws; gives = b'.gives; part = b'.part; tried = b'.tried; wish = ws; quiet = b'.quiet; left = b'.left; fell = b'.fell; hit = b'.hit; calm = b'.calm; owed = b'.owed } in
+        λ n ns ws. record { parts = n; needs = ns; draws = b'.draws; gives = b'.gives; part = b'.part; tried = b'.tried; wish = ws; quiet = b'.quiet; left = b'.left } in
         let L : ℕ → (ℕ → List Need) → (ℕ → Wish) → ℕ → ℕ = λ n ns ws y. lv (B n ns ws) (granted (B n ns ws)) y in
         found_is b (granted b) to granted_found
         ∙ sym (ap (λ (n : ℕ). L n b'.needs b'.wish) o.parts
         ∙ ap (λ (ns : ℕ → List Need). L b.parts ns b'.wish) o.needs
         ∙ ap (λ (ws : ℕ → Wish). L b.parts b.needs ws) o.wish)
 
-    -- 64 parts at 15 are 960: who used up so many askings has all parts off
-    settle_below : (r : Bool) (n m : ℕ) (b' : Board) → b.parts ≤ 64 → 960 ≤ n → CameDown (at to) n b m b' → OrSpent r m (Below b' (at to)) → Below b' (at to)
-    settle_below true n m b' few all c h z hz = h z hz
-    settle_below false n m b' few all c h z hz =
-        omega (arith, h, c.lower, (cost_is_bounded b s few).1, total_one b'.parts (λ (x : ℕ). level_of (b'.part x)) z hz)
+    -- 64 parts at 15 are 960, so not all of the 1,024 askings were needed
+    settle_below : (r : Bool) (n m : ℕ) (b' : Board) → b.parts ≤ 64 → n ≡ 1024 → CameDown (at to) n b m b' → OrSpent r m (Below b' (at to)) → Below b' (at to)
+    settle_below true n m b' few all c h = h
+    settle_below false n m b' few all c h = absurd (omega (arith, h, c.lower, (cost_is_bounded b s few).1))
 
-    pub settle_lean : (r : Bool) (n m : ℕ) (b' : Board) → b.parts ≤ 64 → 960 ≤ n → CameDown (at to) n b m b' → OrSpent r m (Below b' (at to)) → Sound b' → T (lean b')
+    pub settle_lean : (r : Bool) (n m : ℕ) (b' : Board) → b.parts ≤ 64 → n ≡ 1024 → CameDown (at to) n b m b' → OrSpent r m (Below b' (at to)) → Sound b' → T (lean b')
     settle_lean r n m b' few all c h s' =
         lean_below least_is_least b' s' (subst (λ (l : ℕ → ℕ). Below b' l) (same_least b' c.only) (settle_below r n m b' few all c h))

@@ -1,7 +1,7 @@
 -- The data sheet's tests as plain facts, in the words of the trait: served, suits, needed, keeps. Assumes nothing.
 use Rattle.std.proofs.Common.{◌≡◌, ℕ, ◌<◌, ◌≤◌, Bool, true, false, not, ◌&&◌, ◌||◌, T, eqb, leb, List, length, sym, refl, ap, ◌∙◌, subst, inl, inr, le→leb, eqb→eq, leb→le, T_not}
 use lib.Dec.{not_T, eqb_refl}
-use Rattle.power.specs.Board.{Board, Need, Part, Wish, None', Asked, Granted, Lost, on_of, least_of, most_of, is_off, is_on, level_of, all, served, suits, needed, keeps, granted_over}
+use Rattle.power.specs.Board.{Board, Need, Part, Wish, None', Asked, Granted, on_of, least_of, most_of, is_off, is_on, level_of, all, served, suits, needed, keeps, granted_over}
 use Rattle.power.specs.Sound.{Has}
 use Rattle.power.proofs.Tests.{and_l, and_r, and_i, or_i, or_not, way, every_at, every_of, none_of, none_at, all_at, all_of}
 
@@ -119,7 +119,6 @@ keeps_of b x v g = every_of 32 _ (λ u h. go u h (b.wish u) refl)
     go : (u : ℕ) → u < 32 → (w : Wish) → b.wish u ≡ w → T (granted_over x v w)
     go u h None' e = tt
     go u h (Asked y l a) e = tt
-    go u h Lost e = tt
     go u h (Granted y l) e =
         or_i (not (eqb x y)) (leb l v) (λ q.
         let s : x ≡ y = eqb→eq x y (not_not (eqb x y) q) in

@@ -1,8 +1,8 @@
 -- What the mirror shows of the parts: read, after a step, after a telling. Assumes nothing.
-use Rattle.std.proofs.Common.{◌≡◌, ℕ, zero, suc, ◌+◌, ◌<◌, Bool, true, false, cond, not, T, ltb, ◌≢◌, length, get_or, set, replicate, sym, refl, ap, ◌∙◌, subst, inl, inr, arith}
+use Rattle.std.proofs.Common.{◌≡◌, ℕ, zero, suc, ◌+◌, ◌<◌, Bool, true, false, cond, ltb, ◌≢◌, length, get_or, set, replicate, sym, refl, ap, ◌∙◌, subst, inl, inr, arith}
 use Rattle.std.proofs.lemmas.Bool.{cases_lt, cond-true, cond-false, lt-ltb, eq-eqb, ne_eqb}
 use Rattle.std.proofs.lemmas.List.{get_or_past}
-use Rattle.power.specs.Board.{Board, Part, On, is_off, level_of, put, with_parts, Tries, good, not_yet, told, is_six, ticked, AtStart}
+use Rattle.power.specs.Board.{Board, Part, On, level_of, put, with_parts, Tries, good, not_yet, told, is_six, ticked, AtStart}
 use Rattle.power.specs.Mirrors.{part_of, TriedIs, state_at, Shows, Anew}
 use Rattle.power.specs.declared.Answer.{Answer}
 use Rattle.power.specs.declared.Answer.TheVariants.{Done, No}
@@ -21,15 +21,6 @@ tried_shown m b x n h e = subst (λ (s : PartState). TriedIs s (b.tried x)) (sym
 
 pub level_shown : (m : Mirror) (b : Board) (x n : ℕ) → Shows m b → n ≡ level_of (part_of (state_at m x)) → n ≡ level_of (b.part x)
 level_shown m b x n h e = e ∙ sym (ap level_of (h.part x))
-
-pub not_off_shown : (m : Mirror) (b : Board) (x : ℕ) (s : PartState) → Shows m b → s ≡ state_at m x → s ≢ state.Off → T (not (is_off (b.part x)))
-unfolding is_off
-not_off_shown m b x s h e n = subst (λ (p : Part). T (not (is_off p))) (sym (part_shown m b x s h e)) (go s n)
-  where
-    go : (a : PartState) → a ≢ state.Off → T (not (is_off (part_of a)))
-    go state.Off q = absurd (q refl)
-    go (state.Rising n) q = tt
-    go (state.On l) q = tt
 
 -- A STEP. The state of x is set to s, and the board has changed at x only.
 pub shows_step :

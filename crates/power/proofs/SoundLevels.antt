@@ -21,15 +21,12 @@ part_range (On l) r t = r l refl
 pub level_range : (b : Board) → Sound b → (x : ℕ) → x < b.parts → T (not (is_off (b.part x))) → (1 ≤ level_of (b.part x)) × (level_of (b.part x) ≤ 15)
 level_range b s x hx off = part_range (b.part x) (λ l e. s.range x l hx e) off
 
-pub part_top : (p : Part) → ((l : ℕ) → p ≡ On l → (1 ≤ l) × (l ≤ 15)) → level_of p ≤ 15
-part_top p r =
-    elim (cases_lt 0 (level_of p)) [
-      | inl h ↦ (part_range p r (not_off p h)).1
+pub level_top : (b : Board) → Sound b → (x : ℕ) → x < b.parts → level_of (b.part x) ≤ 15
+level_top b s x hx =
+    elim (cases_lt 0 (level_of (b.part x))) [
+      | inl h ↦ (level_range b s x hx (not_off (b.part x) h)).1
       | inr h ↦ omega arith
     ]
-
-pub level_top : (b : Board) → Sound b → (x : ℕ) → x < b.parts → level_of (b.part x) ≤ 15
-level_top b s x hx = part_top (b.part x) (λ l e. s.range x l hx e)
 
 pub sound_serves : SoundServes
 sound_serves b s =

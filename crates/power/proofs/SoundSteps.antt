@@ -1,6 +1,5 @@
 -- Whatever the data sheet allows keeps a board sound. Assumes nothing.
-use Rattle.std.proofs.Common.{◌≡◌, ℕ, ◌<◌, ◌≤◌, Bool, not, T, ◌≢◌, List, length, sym, ap, ◌∙◌, subst, subst₂, inl, inr, arith, T_not}
-use lib.Dec.{not_T}
+use Rattle.std.proofs.Common.{◌≡◌, ℕ, ◌<◌, ◌≤◌, Bool, not, T, ◌≢◌, List, length, sym, ap, ◌∙◌, subst, subst₂, inl, inr, arith}
 use Rattle.std.proofs.lemmas.Bool.{cases_eq}
 use Rattle.power.specs.Board.{Board, Need, Part, Off, Rising, On, Granted, on_of, least_of, most_of, is_off, is_on, is_rising, level_of, put, drawn, with_parts, MayRaise, MayLower, MayLevel, Tries, good, not_yet, raised, lowered, levelled}
 use Rattle.power.specs.Sound.{Has, Sound, StepsKeepSound}
@@ -15,7 +14,7 @@ use Rattle.power.proofs.Sheet.{served_at, suits_at, unneeded_at, keeps_at}
 HasBy : List Need → ℕ → Part → ℕ → Type 0
 HasBy ns k q l = T (is_on q) × (least_of k l ns ≤ level_of q) × (level_of q ≤ most_of k ns)
 
-pub has_move : (ns : List Need) (k : ℕ) (q q' : Part) (l l' : ℕ) → q ≡ q' → l ≡ l' →
+has_move : (ns : List Need) (k : ℕ) (q q' : Part) (l l' : ℕ) → q ≡ q' → l ≡ l' →
     T (is_on q) × (least_of k l ns ≤ level_of q) × (level_of q ≤ most_of k ns) →
     T (is_on q') × (least_of k l' ns ≤ level_of q') × (level_of q' ≤ most_of k ns)
 unfolding HasBy
@@ -28,8 +27,7 @@ module _ (b : Board) (s : Sound b) (x : ℕ) (p : Part) (t : ℕ → ℕ)
     T (is_on p) × (least_of k (level_of (b.part y)) (b.needs y) ≤ level_of p) × (level_of p ≤ most_of k (b.needs y)))
     (within : (l : ℕ) → p ≡ On l → (1 ≤ l) × (l ≤ 15))
     (held : (u l : ℕ) → u < 32 → b.wish u ≡ Granted x l → T (is_on p) × (l ≤ level_of p))
-    (given : drawn b (put x p b.part) ≤ b.gives)
-    (free : x < b.parts → T (b.hit x) → T (is_off p)) where
+    (given : drawn b (put x p b.part) ≤ b.gives) where
   has' : (y k : ℕ) → y < b.parts → T (not (is_off (put x p b.part y))) → k < length (b.needs y) → Has (put x p b.part) (b.needs y) k (level_of (put x p b.part y))
   has' y k hy off hk =
       let f = b.part in
@@ -64,15 +62,8 @@ module _ (b : Board) (s : Sound b) (x : ℕ) (p : Part) (t : ℕ → ℕ)
       put_each Q x p b.part y (λ d. held u l hu (e ∙ ap (λ (z : ℕ). Granted z l) d)) (λ _. (old.2, old.3)) in
       (old.0, old.1, r.0, r.1)
 
-  clear' : (y : ℕ) → y < b.parts → T (b.hit y) → T (is_off (put x p b.part y))
-  clear' y = put_each (λ (z : ℕ) (q : Part). z < b.parts → T (b.hit z) → T (is_off q)) x p b.part y (λ e. subst (λ (z : ℕ). z < b.parts → T (b.hit z) → T (is_off p)) (sym e) free) (λ _. s.clear y)
-
   sound_put : Sound (with_parts (put x p b.part) t b)
-  sound_put = record { plan = s.plan; has = has'; range = range'; draws = given; asks = s.asks; holds = holds'; clear = clear' }
-
--- what isn't off isn't hit
-pub unhit_not_off : (b : Board) → Sound b → (x : ℕ) → x < b.parts → T (not (is_off (b.part x))) → T (not (b.hit x))
-unhit_not_off b s x hx off = not_T (b.hit x) (λ t. T_not (is_off (b.part x)) off (s.clear x hx t))
+  sound_put = record { plan = s.plan; has = has'; range = range'; draws = given; asks = s.asks; holds = holds' }
 
 -- nothing that isn't off needs a part that isn't on
 unneeded : (b : Board) → Sound b → (x : ℕ) → (T (is_on (b.part x)) → ⊥) →
@@ -89,10 +80,9 @@ sound_raised b s x m =
     (λ l e. absurd (subst (λ (q : Part). T (is_on q)) (sym e) tt))
     (λ u l hu e. absurd (isnt (s.holds u x l hu e).2))
     m.4
-    (λ _ t. absurd (T_not (b.hit x) m.5 t))
 
 -- what's drawn with a part no higher than it was
-pub draws_lower : (b : Board) → Sound b → (x : ℕ) (p : Part) → level_of p ≤ level_of (b.part x) → drawn b (put x p b.part) ≤ b.gives
+draws_lower : (b : Board) → Sound b → (x : ℕ) (p : Part) → level_of p ≤ level_of (b.part x) → drawn b (put x p b.part) ≤ b.gives
 draws_lower b s x p h = draws_put b (λ z. level_of (b.part z)) s.plan (level_top b s) s.draws (λ z _. omega arith) x p h
 
 sound_good : (b : Board) → Sound b → (x : ℕ) → x < b.parts → T (is_rising (b.part x)) → Sound (with_parts (put x (On 1) b.part) b.tried b)
@@ -105,11 +95,10 @@ sound_good b s x hx r =
     (λ l e. let d : 1 ≡ l = ap level_of e in (omega arith, omega arith))
     (λ u l hu e. absurd (isnt (s.holds u x l hu e).2))
     (draws_lower b s x (On 1) (omega (arith, rising_level (b.part x) r)))
-    (λ _ t. absurd (T_not (b.hit x) (unhit_not_off b s x hx (rising_off (b.part x) r)) t))
 
 pub sound_tries : (b : Board) → Sound b → (x : ℕ) (r : Bool) (b' : Board) → x < b.parts → Tries b x r b' → Sound b'
 sound_tries b s x r b' hx (good t) = sound_good b s x hx t
-sound_tries b s x r b' hx (not_yet t) = record { plan = s.plan; has = s.has; range = s.range; draws = s.draws; asks = s.asks; holds = s.holds; clear = s.clear }
+sound_tries b s x r b' hx (not_yet t) = record { plan = s.plan; has = s.has; range = s.range; draws = s.draws; asks = s.asks; holds = s.holds }
 
 pub sound_lowered : (b : Board) → Sound b → (x : ℕ) → MayLower b x → Sound (lowered x b)
 unfolding is_off is_on level_of
@@ -120,7 +109,6 @@ sound_lowered b s x m =
     (λ l e. absurd (subst (λ (q : Part). T (is_on q)) (sym e) tt))
     (λ u l hu e. absurd (omega (arith, keeps_at b x 0 m.4 u l hu e, (s.holds u x l hu e).1)))
     (draws_lower b s x Off (omega arith))
-    (λ _ _. tt)
 
 pub sound_levelled : (b : Board) → Sound b → (x v : ℕ) → MayLevel b x v → Sound (levelled x v b)
 unfolding is_off is_on level_of
@@ -131,7 +119,6 @@ sound_levelled b s x v m =
     (λ l e. let d : v ≡ l = ap level_of e in (omega (arith, m.3), omega (arith, m.4)))
     (λ u l hu e. (tt, keeps_at b x v m.8 u l hu e))
     m.9
-    (λ _ t. absurd (T_not (b.hit x) m.10 t))
 
 pub steps_keep_sound : StepsKeepSound
 steps_keep_sound b s = (sound_raised b s, sound_tries b s, sound_lowered b s, sound_levelled b s)

@@ -6,7 +6,7 @@ use Rattle.power.specs.declared.Call.{Call}
 use Rattle.power.specs.declared.Call.TheVariants.{Want, Give}
 use Rattle.power.specs.declared.Answer.{Answer}
 use Rattle.power.specs.declared.Answer.TheVariants.{Done, No}
-use Rattle.power.specs.Board.{Board, Part, Wish, None', Asked, Granted, Lost, is_off, is_on, is_none, level_of, put, with_wish, why, called, may_tell, may_tell_of, told, told_of, is_six, ticked, AtStart}
+use Rattle.power.specs.Board.{Board, Part, Wish, None', Asked, Granted, is_off, is_on, is_none, level_of, put, with_wish, why, called, may_tell, may_tell_of, told, told_of, is_six, ticked, AtStart}
 use Rattle.power.specs.Sound.{Sound, UsersKeepSound}
 use Rattle.power.proofs.Tests.{and_l, and_r}
 use Rattle.power.proofs.Draws.{draws_nothing}
@@ -32,28 +32,13 @@ sound_start b a =
       draws = omega (arith, draws_nothing b a.1 (λ x. (a.2 x).0));
       asks = λ u x l g hu e. absurd (nobody u (Asked x l g) tt e);
       holds = λ u x l hu e. absurd (nobody u (Granted x l) tt e);
-      clear = λ x hx t. absurd (subst T (a.6 x).1 t);
     }
 
 -- Only the wish of u changes, to w, that is sound by itself.
 module _ (b : Board) (s : Sound b) (u : ℕ) (w : Wish) (t : ℕ → ℕ) (q n : ℕ)
     (asked : (x l a : ℕ) → w ≡ Asked x l a → (x < b.parts) × (1 ≤ l) × (l ≤ 15))
     (held : (x l : ℕ) → w ≡ Granted x l → (x < b.parts) × (1 ≤ l) × T (is_on (b.part x)) × (l ≤ level_of (b.part x))) where
-  sound_wish : Sound (record {
-    parts = b.parts;
-    needs = b.needs;
-    draws = b.draws;
-    gives = b.gives;
-    part = b.part;
-    tried = t;
-    wish = put u w b.wish;
-    quiet = q;
-    left = n;
-    fell = b.fell;
-    hit = b.hit;
-    calm = b.calm;
-    owed = b.owed;
-  })
+  sound_wish : Sound (record { parts = b.parts; needs = b.needs; draws = b.draws; gives = b.gives; part = b.part; tried = t; wish = put u w b.wish; quiet = q; left = n })
   unfolding Held Named
   sound_wish =
       record {
@@ -63,7 +48,6 @@ module _ (b : Board) (s : Sound b) (u : ℕ) (w : Wish) (t : ℕ → ℕ) (q n :
         draws = s.draws;
         asks = λ v x l a hv. put_each (λ (i : ℕ) (z : Wish). z ≡ Asked x l a → Named b x l) u w b.wish v (λ _. asked x l a) (λ _. s.asks v x l a hv);
         holds = λ v x l hv. put_each (λ (i : ℕ) (z : Wish). z ≡ Granted x l → Held b x l) u w b.wish v (λ _. held x l) (λ _. s.holds v x l hv);
-        clear = s.clear;
       }
 
 -- TOLD
@@ -80,7 +64,6 @@ told_held b s u hu (Asked y m g) e Done t x l d =
     subst₂ (Held b) p q (r.0, r.1, and_l A B t, leb→le m (level_of (b.part y)) (and_r A B t))
 told_held b s u hu (Asked y m g) e (No n) t x l d = absurd (none_granted x l d)
 told_held b s u hu (Granted y m) e a t x l d = absurd t
-told_held b s u hu Lost e a t x l d = absurd (none_granted x l d)
 
 -- who was told doesn't wait
 pub told_unasked : (b : Board) (w : Wish) (a : Answer) → T (may_tell_of b w a) → (x l c : ℕ) → told_of w a ≡ Asked x l c → ⊥
@@ -89,7 +72,6 @@ told_unasked b None' a t x l c d = t
 told_unasked b (Asked y m g) Done t x l c d = granted_asked y m x l c d
 told_unasked b (Asked y m g) (No n) t x l c d = none_asked x l c d
 told_unasked b (Granted y m) a t x l c d = t
-told_unasked b Lost a t x l c d = none_asked x l c d
 
 pub sound_told : (b : Board) (u : ℕ) (a : Answer) → Sound b → T (may_tell b u a) → Sound (told u a b)
 sound_told b u a s t =
@@ -110,7 +92,6 @@ sound_ticked b s =
       draws = s.draws;
       asks = λ u x l a hu e. let r = older_asked (b.wish u) x l a e in s.asks u x l r.0 hu r.1;
       holds = λ u x l hu e. s.holds u x l hu (older_granted (b.wish u) x l e);
-      clear = λ x hx t. absurd t;
     }
 
 -- CALLED

@@ -4,7 +4,7 @@ use Rattle.std.proofs.lemmas.Bool.{cases_eq}
 use Rattle.power.specs.Board.{Board, Part, Off, Rising, On, is_on, level_of, put, with_parts, Tries, good, not_yet}
 use Rattle.power.specs.Aim.{Fits, Covers, Serves}
 use Rattle.power.specs.Sound.{Sound}
-use Rattle.power.specs.Walk.{Below, Under, Unhit, Down, Up, DownSteps, UpSteps}
+use Rattle.power.specs.Walk.{Below, Under, Down, Up, DownSteps, UpSteps}
 use Rattle.power.proofs.Puts.{put_each}
 use Rattle.power.proofs.OnePart.{rising_level}
 use Rattle.power.proofs.SoundSteps.{sound_lowered, sound_levelled, sound_raised, sound_tries}
@@ -50,14 +50,13 @@ down_steps b t y hy d =
     )
 
 -- UP
-pub up_start : (b : Board) (t l : ℕ → ℕ) → Sound b → Unhit b → Fits b t → Serves b l → Below b t → Under b l t → Up b t l 0
-up_start b t l s n f v h u = record { sound = s; unhit = n; fits = f; serves = v; below = h; under = u; through = λ z hz. absurd (omega arith) }
+pub up_start : (b : Board) (t l : ℕ → ℕ) → Sound b → Fits b t → Serves b l → Below b t → Under b l t → Up b t l 0
+up_start b t l s f v h u = record { sound = s; fits = f; serves = v; below = h; under = u; through = λ z hz. absurd (omega arith) }
 
 up_put : (b : Board) (t l : ℕ → ℕ) (y : ℕ) (p : Part) (n : ℕ → ℕ) → Up b t l y → Sound (with_parts (put y p b.part) n b) → level_of p ≤ t y → Up (with_parts (put y p b.part) n b) t l y
 up_put b t l y p n d s h =
     record {
       sound = s;
-      unhit = d.unhit;
       fits = fits_with b t (put y p b.part) n d.fits;
       serves = d.serves;
       below = λ z hz. put_each (λ (z : ℕ) (q : Part). level_of q ≤ t z) y p b.part z (λ e. subst (λ (w : ℕ). level_of p ≤ t w) (sym e) h) (λ ne. d.below z hz);
@@ -72,7 +71,6 @@ up_tries b t l y hy d r b' (good q) =
 up_tries b t l y hy d r b' (not_yet q) =
     record {
       sound = sound_tries b d.sound y false _ hy (not_yet q);
-      unhit = d.unhit;
       fits = fits_with b t b.part _ d.fits;
       serves = d.serves;
       below = d.below;
@@ -83,7 +81,7 @@ up_tries b t l y hy d r b' (not_yet q) =
 pub up_steps : UpSteps
 unfolding level_of
 up_steps b t l y hy d =
-    let step = λ (left : 0 < b.left). up_goes_on b t l d.sound d.unhit d.fits d.serves d.below d.under left y hy d.through in (
+    let step = λ (left : 0 < b.left). up_goes_on b t l d.sound d.fits d.serves d.below d.under left y hy d.through in (
       λ left off h.
           let m = (step left).0 off h in
           (m, up_put b t l y Rising (put y 0 b.tried) d (sound_raised b d.sound y m) (omega (arith, d.under y hy))),
@@ -94,7 +92,6 @@ up_steps b t l y hy d =
           (m, up_put b t l y (On v) b.tried d (sound_levelled b d.sound y v m) (omega (arith, d.under y hy))),
       λ h. record {
         sound = d.sound;
-        unhit = d.unhit;
         fits = d.fits;
         serves = d.serves;
         below = d.below;

@@ -1,8 +1,7 @@
 -- A ceiling and a goal go on being what to aim at: after a walk, a tick, and a call of anybody. Assumes nothing.
-use Rattle.std.proofs.Common.{◌≡◌, ℕ, ◌<◌, ◌≤◌, Bool, not, T, List, length, get_or, sym, ap, ◌∙◌, subst, arith}
+use Rattle.std.proofs.Common.{◌≡◌, ℕ, ◌<◌, ◌≤◌, List, length, get_or, sym, ap, ◌∙◌, subst, arith}
 use Rattle.power.specs.Board.{Board, Need, Wish, Granted, on_of, least_of, most_of, total, drawn_at, with_wish, ticked}
 use Rattle.power.specs.Aim.{Fits}
-use Rattle.power.specs.Walk.{Unhit}
 use Rattle.power.specs.Moves.{OnlyParts, Targets}
 use Rattle.power.proofs.Puts.{put_each}
 use Rattle.power.proofs.OneWish.{older_granted}
@@ -23,9 +22,6 @@ fits_only b b' t o f =
           (sym o.needs) (λ x k hx. f.meets x k (omega (arith, o.parts)));
       draws = drawn_only b b' t o f.draws;
     }
-
-pub unhit_only : (b b' : Board) → OnlyParts b b' → Unhit b → Unhit b'
-unhit_only b b' o n x hx = subst (λ (h : ℕ → Bool). T (not (h x))) (sym o.hit) (n x (omega (arith, o.parts)))
 
 pub targets_only : (b b' : Board) (t l : ℕ → ℕ) → OnlyParts b b' → Targets b t l → Targets b' t l
 targets_only b b' t l o a =

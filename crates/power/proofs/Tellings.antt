@@ -35,7 +35,7 @@ pub can_only : (b b' : Board) (x v : ℕ) → OnlyParts b b' → T (can_be b (an
 can_only b b' x v o t =
     let P : ℕ → (ℕ → List Need) → (ℕ → List ℕ) → ℕ → (ℕ → Wish) → Type 0 =
     λ n ns ds m ws.
-    let c : Board = record { parts = n; needs = ns; draws = ds; gives = m; part = b'.part; tried = b'.tried; wish = ws; quiet = b'.quiet; left = b'.left; fell = b'.fell; hit = b'.hit; calm = b'.calm; owed = b'.owed } in
+    let c : Board = record { parts = n; needs = ns; draws = ds; gives = m; part = b'.part; tried = b'.tried; wish = ws; quiet = b'.quiet; left = b'.left } in
     T (can_be c (and_also (granted c) x v)) in
     subst (λ (n : ℕ). P n b'.needs b'.draws b'.gives b'.wish) (sym o.parts)
     (subst (λ (ns : ℕ → List Need). P b.parts ns b'.draws b'.gives b'.wish) (sym o.needs)
@@ -46,6 +46,6 @@ can_only b b' x v o t =
 pub goal_only : (b b' : Board) (x v : ℕ) → OnlyParts b b' → ◌≡◌ {A = ℕ → ℕ} (goal b' x v) (goal b x v)
 goal_only b b' x v o =
     let B : ℕ → (ℕ → List Need) → Board =
-    λ n ns. record { parts = n; needs = ns; draws = b'.draws; gives = b'.gives; part = b'.part; tried = b'.tried; wish = b'.wish; quiet = b'.quiet; left = b'.left; fell = b'.fell; hit = b'.hit; calm = b'.calm; owed = b'.owed } in
+    λ n ns. record { parts = n; needs = ns; draws = b'.draws; gives = b'.gives; part = b'.part; tried = b'.tried; wish = b'.wish; quiet = b'.quiet; left = b'.left } in
     let G : ℕ → (ℕ → List Need) → ℕ → ℕ = λ n ns y. goal (B n ns) x v y in
     ap (λ (n : ℕ). G n b'.needs) o.parts ∙ ap (λ (ns : ℕ → List Need). G b.parts ns) o.needs

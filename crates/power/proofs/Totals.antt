@@ -12,16 +12,6 @@ pub total_next : (n : ℕ) (f : ℕ → ℕ) → total (n + 1) f ≡ total n f +
 unfolding total
 total_next n f = rw add-one
 
--- no part is above the total
-pub total_one : (n : ℕ) (f : ℕ → ℕ) (x : ℕ) → x < n → f x ≤ total n f
-unfolding total
-total_one zero f x h = omega arith
-total_one (suc n) f x h =
-    elim (cases_eq x n) [
-      | inl e ↦ omega (arith, ap f e)
-      | inr ne ↦ omega (arith, total_one n f x (omega arith))
-    ]
-
 -- f is nowhere above g
 pub total_more : (n : ℕ) (f g : ℕ → ℕ) → ((x : ℕ) → x < n → f x ≤ g x) → total n f ≤ total n g
 unfolding total

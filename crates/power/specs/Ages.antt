@@ -1,7 +1,7 @@
 -- How long those who wait have waited, and still may: what the user whose turn it is still costs, and all who come before.
 -- Assumes nothing.
-use Rattle.std.specs.Prelude.{◌≡◌, ℕ, ◌+◌, ◌-◌, ◌*◌, ◌<◌, ◌≤◌, cond, nat_lt, slice_index}
-use Rattle.power.specs.Board.{Board, Wish, None', Asked, Granted, Lost, least_levels, and_also}
+use Rattle.std.specs.Prelude.{◌≡◌, ℕ, ◌+◌, ◌*◌, ◌<◌, ◌≤◌, cond, nat_lt, slice_index}
+use Rattle.power.specs.Board.{Board, Wish, None', Asked, Granted, least_levels, and_also}
 use Rattle.power.specs.Cost.{costs}
 use Rattle.power.specs.Rota.{dist}
 
@@ -18,15 +18,8 @@ unfoldable pub turn_cost : Board → Wish → ℕ
 turn_cost b None' = 5056
 turn_cost b (Asked x l g) = phi b (goal b x l)
 turn_cost b (Granted x l) = 5056
-turn_cost b Lost = 5056
 
--- Who waits has waited g ticks. Of the 226,304 askings that may come before the answer, 1,014 went by in each tick;
--- 6,080 are for each user on the way round from the turn t, a tick's more than a want can cost; a tick's are for each 7 that is owed.
--- The 10 that each tick has more pay beforehand for the next part that falls.
+-- Who waits has waited g ticks. Of the 193,536 askings that may come before the answer, 1,024 went by in each tick;
+-- 6,080 are for each user on the way round from the turn t, a tick's more than a want can cost.
 abbrev pub Aged : ℕ → Board → Type 0
-Aged t b = (u x l g : ℕ) → u < 32 → b.wish u ≡ Asked x l g → 1014 * g + turn_cost b (b.wish t) + 6080 * dist t u + 1024 * b.owed ≤ 226304 + 10 * b.calm
-
--- The same will hold after a tick that does nothing for those who wait.
-abbrev pub Bears : ℕ → Board → Type 0
-Bears t b =
-    (u x l g : ℕ) → u < 32 → b.wish u ≡ Asked x l g → 1014 * (g + 1) + turn_cost b (b.wish t) + 6080 * dist t u + 1024 * (b.owed - 1) ≤ 226304 + 10 * (b.calm - 1)
+Aged t b = (u x l g : ℕ) → u < 32 → b.wish u ≡ Asked x l g → 1024 * g + turn_cost b (b.wish t) + 6080 * dist t u ≤ 193536

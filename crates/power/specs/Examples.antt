@@ -22,11 +22,11 @@ plan =
     ∷ []
 
 abbrev pub start : Board
-start = record { parts = 4; needs = λ x. slice_index_or plan x []; draws = λ x. replicate 16 0; gives = 0; part = λ x. Off; tried = λ x. 0; wish = λ u. None'; quiet = 0; left = 1024; fell = λ x. false; hit = λ x. false; calm = 0; owed = 0 }
+start = record { parts = 4; needs = λ x. slice_index_or plan x []; draws = λ x. replicate 16 0; gives = 0; part = λ x. Off; tried = λ x. 0; wish = λ u. None'; quiet = 0; left = 1024 }
 
 -- the same parts, each drawing 1 at 1, 2 at 2 and 5 from 3 on, of 7 that are given
 abbrev pub drawing : Board
-drawing = record { parts = 4; needs = λ x. slice_index_or plan x []; draws = λ x. from 1 2 5; gives = 7; part = λ x. Off; tried = λ x. 0; wish = λ u. None'; quiet = 0; left = 1024; fell = λ x. false; hit = λ x. false; calm = 0; owed = 0 }
+drawing = record { parts = 4; needs = λ x. slice_index_or plan x []; draws = λ x. from 1 2 5; gives = 7; part = λ x. Off; tried = λ x. 0; wish = λ u. None'; quiet = 0; left = 1024 }
 
 -- wants: none, and one
 abbrev pub nothing : ℕ → ℕ

@@ -1,6 +1,6 @@
 -- What code tells of the least: of a part's needs, of the levels it finds, and of levels to aim at.
 -- Assumes nothing.
-use Rattle.std.specs.Prelude.{◌≡◌, ℕ, ◌<◌, ◌≤◌, Bool, not, ◌&&◌, ◌||◌, T, leb, List, length, Result, MatchResult, ◌==◌, nat_le}
+use Rattle.std.specs.Prelude.{◌≡◌, ℕ, ◌<◌, ◌≤◌, Bool, not, ◌&&◌, ◌||◌, T, leb, List, Result, MatchResult, ◌==◌, nat_le}
 use Rattle.power.specs.declared.types.Levels.{Levels}
 use Rattle.power.specs.declared.types.Aims.{Aims}
 use Rattle.power.specs.declared.types.CantBe.{CantBe}
@@ -14,32 +14,18 @@ pub record Pushed (ns : List Need) (l k : ℕ) (f to : ℕ → ℕ) : Type 0 whe
   pub asks : (j : ℕ) → j < k → least_of j l ns ≤ to (on_of j ns)
   pub only : (z m : ℕ) → f z ≤ m → ((j : ℕ) → j < k → on_of j ns ≡ z → least_of j l ns ≤ m) → to z ≤ m
 
--- one of these needs asks for a level above 15 at level l
-pub record AsksTooMuch (ns : List Need) (l : ℕ) : Type 0 where
-  pub which : ℕ
-  pub some : which < length ns
-  pub high : 15 < least_of which l ns
-
 -- no need of x is higher than x allows
 abbrev pub needs_fit : Board → (ℕ → ℕ) → ℕ → Bool
 needs_fit b f x = all (λ (n : Need). leb (f n.on) n.most) (b.needs x)
 
--- the same, if x isn't off
-abbrev pub part_fits : Board → (ℕ → ℕ) → ℕ → Bool
-part_fits b f x = f x == 0 || needs_fit b f x
-
--- the same of every part, and none is above 15; what's drawn wasn't looked at
+-- the same of every part that isn't off, and none is above 15; what's drawn wasn't looked at
 abbrev pub parts_fit : Board → (ℕ → ℕ) → Bool
-parts_fit b f = every b.parts (λ (x : ℕ). nat_le (f x) 15 && part_fits b f x)
+parts_fit b f = every b.parts (λ (x : ℕ). nat_le (f x) 15 && (f x == 0 || needs_fit b f x))
 
 -- the least levels, none above 15; what's allowed wasn't looked at yet
 pub record Swept (b : Board) (want : ℕ → ℕ) (ls : Levels) : Type 0 where
   pub same : (x : ℕ) → at ls x ≡ lv b want x
   pub low : (x : ℕ) → at ls x ≤ 15
-
--- them; where a level is above 15 it can't be
-abbrev pub Sweeps : Board → (ℕ → ℕ) → Result Levels CantBe → Type 0
-Sweeps b want r = MatchResult r (λ ls. Swept b want ls) (λ _. T (not (can_be b want)))
 
 -- the least levels, for what can be
 pub record Found (b : Board) (want : ℕ → ℕ) (ls : Levels) : Type 0 where

@@ -1,16 +1,15 @@
 -- What holds of the keeper and the board between any two calls of the keeper, and what a tick's work comes to.
 -- Assumes nothing.
-use Rattle.std.specs.Prelude.{◌≡◌, ℕ, ◌+◌, ◌<◌, ◌≤◌, false, not, T, ◌⊎◌, Some, None, Option}
+use Rattle.std.specs.Prelude.{◌≡◌, ℕ, ◌+◌, ◌<◌, ◌≤◌, not, T, Some, None, Option}
 use Rattle.power.specs.declared.Answer.{Answer}
 use Rattle.power.specs.declared.types.Aims.{Aims}
 use Rattle.power.specs.declared.Keeper.{Keeper}
-use Rattle.power.specs.Board.{Board, Asked, is_asked, is_lost, losses, lean, young, may_tell, may_tell_of, told, in_time, ticked, fallen, MayFall}
+use Rattle.power.specs.Board.{Board, Asked, is_asked, lean, may_tell, may_tell_of, told, in_time, ticked}
 use Rattle.power.specs.Sound.{Sound}
 use Rattle.power.specs.Cost.{costs}
 use Rattle.power.specs.Mirrors.{Knows, SaysAll}
 use Rattle.power.specs.Ages.{goal, Aged}
 use Rattle.power.specs.Turns.{AimsAt, AimsFor}
-use Rattle.power.specs.Falls.{noticed}
 
 -- what the keeper knows of the board is so
 pub record Mirrors (k : Keeper) (b : Board) : Type 0 where
@@ -21,8 +20,7 @@ pub record Mirrors (k : Keeper) (b : Board) : Type 0 where
   pub idle : k.idle ≡ b.quiet
 
 -- THE INVARIANT. While it is quiet nothing was asked in this tick, and nobody waits; after more than 32 quiet ticks the board is lean;
--- nobody has waited too long; what is aimed at is right for the user whose turn it is;
--- no part is marked as fallen, nor hit; and for each who lost something and isn't told yet a tick is set aside.
+-- nobody has waited too long; and what is aimed at is right for the user whose turn it is.
 pub record Kept (k : Keeper) (b : Board) : Type 0 where
   pub mirrors : Mirrors k b
   pub sound : Sound b
@@ -32,36 +30,6 @@ pub record Kept (k : Keeper) (b : Board) : Type 0 where
   pub low : 32 < b.quiet → T (lean b)
   pub aged : Aged k.turn.user.n b
   pub aims : T k.turn.aiming → AimsFor b k.turn.aims (b.wish k.turn.user.n)
-  pub unmarked : (x : ℕ) → b.fell x ≡ false
-  pub unhit : (x : ℕ) → b.hit x ≡ false
-  pub calm : b.calm ≤ 4096
-  pub owes : losses b ≤ b.owed
-  pub owed : b.owed ≤ 32
-
--- When a tick's work begins, a part may have fallen.
-abbrev pub KeptOrFell : Keeper → Board → Type 0
-KeptOrFell k b = Kept k b ⊎ ((c : Board) × (f : ℕ) × Kept k c × MayFall c f × (b ≡ fallen f c))
-
--- f fell since, and was noticed
-abbrev pub FellFrom : Keeper → ℕ → Board → Type 0
-FellFrom k f b = (c : Board) × Kept k c × MayFall c f × (b ≡ noticed f c)
-
--- nobody is still to be told that what they had is gone
-abbrev pub NobodyLost : Board → Type 0
-NobodyLost b = (u : ℕ) → u < 32 → T (not (is_lost (b.wish u)))
-
--- Within a tick, once what hangs on a part that fell is off. Where somebody lost something it won't stay quiet, so that it needn't be lean.
-pub record Ready (k : Keeper) (b : Board) : Type 0 where
-  pub mirrors : Mirrors k b
-  pub sound : Sound b
-  pub young : (u : ℕ) → u < 32 → T (young (b.wish u))
-  pub still : 0 < b.quiet → (u : ℕ) → u < 32 → T (not (is_asked (b.wish u)))
-  pub low : NobodyLost b → 32 < b.quiet → T (lean b) × (b.left ≡ 1024)
-  pub aims : T k.turn.aiming → AimsFor b k.turn.aims (b.wish k.turn.user.n)
-  pub unmarked : (x : ℕ) → b.fell x ≡ false
-  pub calm : b.calm ≤ 4096
-  pub owes : losses b ≤ b.owed
-  pub owed : b.owed ≤ 32
 
 -- A tick's work for the want x at l. Nothing to tell: all 1,024 askings went into its goal, and what is aimed at still is right. Else an answer that may be told.
 abbrev pub Pursued : Option Answer → Aims → (x l : ℕ) → Board → Board → Type 0

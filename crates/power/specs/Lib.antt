@@ -3,10 +3,8 @@ pub mod Aim
 pub mod Board
 pub mod Cost
 pub mod Examples
-pub mod Falls
 pub mod Found
 pub mod Grants
-pub mod Guards
 pub mod Kept
 pub mod Least
 pub mod Mirrors

@@ -1,7 +1,7 @@
 -- What the keeper's own tables say of a board.
 -- Assumes nothing.
 use Rattle.std.specs.Prelude.{◌≡◌, ℕ, ◌≤◌, slice_index_or}
-use Rattle.power.specs.Board.{Board, Part, Off, Rising, On, Wish, None', Asked, Granted, Lost}
+use Rattle.power.specs.Board.{Board, Part, Off, Rising, On, Wish, None', Asked, Granted}
 use Rattle.power.specs.declared.state.PartState.{PartState}
 use Rattle.power.specs.declared.state.PartState.TheVariants as state
 use Rattle.power.specs.declared.state.Wanted.{Wanted}
@@ -46,7 +46,6 @@ abbrev pub Says : Wanted → Wish → Type 0
 Says wanted.Nothing v = v ≡ None'
 Says (wanted.Asked x l) v = (a : ℕ) × (v ≡ Asked x.n l.n a)
 Says (wanted.Granted x l) v = v ≡ Granted x.n l.n
-Says wanted.Lost v = v ≡ Lost
 
 -- the wishes are the board's, but for their ages
 abbrev pub SaysAll : Wishes → Board → Type 0
@@ -56,10 +55,3 @@ abbrev pub Waits : Wanted → Type 0
 Waits wanted.Nothing = ⊥
 Waits (wanted.Asked x l) = Unit {0}
 Waits (wanted.Granted x l) = ⊥
-Waits wanted.Lost = ⊥
-
-abbrev pub HasLost : Wanted → Type 0
-HasLost wanted.Nothing = ⊥
-HasLost (wanted.Asked x l) = ⊥
-HasLost (wanted.Granted x l) = ⊥
-HasLost wanted.Lost = Unit {0}

@@ -17,10 +17,6 @@ pub record OnlyParts (b b' : Board) : Type 0 where
   pub gives : b'.gives ≡ b.gives
   pub wish : b'.wish ≡ b.wish
   pub quiet : b'.quiet ≡ b.quiet
-  pub fell : b'.fell ≡ b.fell
-  pub hit : b'.hit ≡ b.hit
-  pub calm : b'.calm ≡ b.calm
-  pub owed : b'.owed ≡ b.owed
 
 -- each asking took one at least off the height, and off the cost of any goal below the ceiling t
 pub record CameDown (t : ℕ → ℕ) (n : ℕ) (b : Board) (n' : ℕ) (b' : Board) : Type 0 where

@@ -13,8 +13,7 @@ Has f ns k l = T (is_on (f (on_of k ns))) × (least_of k l ns ≤ level_of (f (o
 
 -- The plan makes sense; what isn't off has what it needs; what's on is at 1 to 15;
 -- no more is drawn than is given;
--- what's asked names a part that there is and a level that there is; what was granted does too, and is on, at that level or more;
--- what is hit is off.
+-- what's asked names a part that there is and a level that there is; what was granted does too, and is on, at that level or more.
 pub record Sound (b : Board) : Type 0 where
   pub plan : T (good_plan b)
   pub has : (x k : ℕ) → x < b.parts → T (not (is_off (b.part x))) → k < length (b.needs x) → Has b.part (b.needs x) k (level_of (b.part x))
@@ -22,7 +21,6 @@ pub record Sound (b : Board) : Type 0 where
   pub draws : drawn b b.part ≤ b.gives
   pub asks : (u x l a : ℕ) → u < 32 → b.wish u ≡ Asked x l a → (x < b.parts) × (1 ≤ l) × (l ≤ 15)
   pub holds : (u x l : ℕ) → u < 32 → b.wish u ≡ Granted x l → (x < b.parts) × (1 ≤ l) × T (is_on (b.part x)) × (l ≤ level_of (b.part x))
-  pub clear : (x : ℕ) → x < b.parts → T (b.hit x) → T (is_off (b.part x))
 
 -- whatever the data sheet allows keeps a board sound
 abbrev pub StepsKeepSound : Type 0

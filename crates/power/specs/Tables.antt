@@ -1,12 +1,7 @@
--- Tables with a place for each part, as functions.
-use Rattle.std.specs.Prelude.{ℕ, Bool, false, slice_index, slice_index_or}
+-- The levels in a table, as a function.
+use Rattle.std.specs.Prelude.{ℕ, slice_index}
 use Rattle.power.specs.declared.types.Levels.{Levels}
-use Rattle.power.specs.declared.types.Hits.{Hits}
 
 -- the level of part x; 0 past the last
 abbrev pub at : Levels → ℕ → ℕ
 at ls x = slice_index ls.of x
-
--- whether part x is hit; past the last none is
-abbrev pub hit_at : Hits → ℕ → Bool
-hit_at h x = slice_index_or h.of x false

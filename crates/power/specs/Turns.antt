@@ -3,7 +3,7 @@
 use Rattle.std.specs.Prelude.{◌≡◌, ℕ, T, ◌≢◌}
 use Rattle.power.specs.declared.types.Aims.{Aims}
 use Rattle.power.specs.declared.state.Turn.{Turn}
-use Rattle.power.specs.Board.{Board, Wish, None', Asked, Granted, Lost, can_be, granted, and_also}
+use Rattle.power.specs.Board.{Board, Wish, None', Asked, Granted, can_be, granted, and_also}
 use Rattle.power.specs.Tables.{at}
 use Rattle.power.specs.Moves.{Targets}
 use Rattle.power.specs.Rota.{moved_on}
@@ -20,7 +20,6 @@ abbrev pub AimsFor : Board → Aims → Wish → Type 0
 AimsFor b a None' = ⊥
 AimsFor b a (Asked x l g) = AimsAt b a x l
 AimsFor b a (Granted x l) = ⊥
-AimsFor b a Lost = ⊥
 
 -- u is done with: the turn moves on if it was u's, and what is aimed at is kept only for another
 pub record DoneWith (u : ℕ) (t t' : Turn) : Type 0 where

@@ -1,6 +1,6 @@
 -- The walk over the board, down to a ceiling and up to a goal below it: the next step is always allowed, and keeps the way so far.
 -- Assumes nothing.
-use Rattle.std.specs.Prelude.{◌≡◌, ℕ, ◌+◌, ◌-◌, ◌<◌, ◌≤◌, Bool, not, T}
+use Rattle.std.specs.Prelude.{◌≡◌, ℕ, ◌+◌, ◌-◌, ◌<◌, ◌≤◌, Bool, T}
 use Rattle.power.specs.Board.{Board, is_off, is_on, level_of, MayRaise, MayLower, MayLevel, Tries, raised, lowered, levelled}
 use Rattle.power.specs.Aim.{Fits, Covers, Serves}
 use Rattle.power.specs.Sound.{Sound}
@@ -17,10 +17,6 @@ Under b l t = (z : ℕ) → z < b.parts → l z ≤ t z
 abbrev pub Reached : Board → (ℕ → ℕ) → ℕ → Type 0
 Reached b l z = (l z ≤ level_of (b.part z)) × (0 < l z → T (is_on (b.part z)))
 
--- no part is hit
-abbrev pub Unhit : Board → Type 0
-Unhit b = (x : ℕ) → x < b.parts → T (not (b.hit x))
-
 -- The next step down, from the last part to the first: the first part from above that is higher than t can be off, or come down by one.
 abbrev pub DownGoesOn : Type 0
 DownGoesOn =
@@ -28,10 +24,10 @@ DownGoesOn =
     (y : ℕ) → y < b.parts → ((z : ℕ) → y < z → z < b.parts → level_of (b.part z) ≤ t z) → t y < level_of (b.part y) →
     (t y ≡ 0 → MayLower b y) × (1 ≤ t y → MayLevel b y (level_of (b.part y) - 1))
 
--- The next step up, from the first part to the last, below the ceiling t, where no part is hit: the first part from below that is lower than l can be raised, or go up by one.
+-- The next step up, from the first part to the last, below the ceiling t: the first part from below that is lower than l can be raised, or go up by one.
 abbrev pub UpGoesOn : Type 0
 UpGoesOn =
-    (b : Board) (t l : ℕ → ℕ) → Sound b → Unhit b → Fits b t → Serves b l → Below b t → Under b l t → 0 < b.left →
+    (b : Board) (t l : ℕ → ℕ) → Sound b → Fits b t → Serves b l → Below b t → Under b l t → 0 < b.left →
     (y : ℕ) → y < b.parts → ((z : ℕ) → z < y → Reached b l z) →
     (T (is_off (b.part y)) → 1 ≤ l y → MayRaise b y) ×
     (T (is_on (b.part y)) → level_of (b.part y) < l y → MayLevel b y (level_of (b.part y) + 1))
@@ -46,7 +42,6 @@ pub record Down (b : Board) (t : ℕ → ℕ) (i : ℕ) : Type 0 where
 -- on the way up to the goal l, below the ceiling t, the parts before i are through
 pub record Up (b : Board) (t l : ℕ → ℕ) (i : ℕ) : Type 0 where
   pub sound : Sound b
-  pub unhit : Unhit b
   pub fits : Fits b t
   pub serves : Serves b l
   pub below : Below b t

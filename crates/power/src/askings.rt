@@ -1,6 +1,6 @@
 // What is asked of the board: one function for each thing, that changes the board and what is known of it together.
 // `may` is what the data sheet asks; `can` is the budget of this tick.
-ghost use Rattle.std.specs.Prelude.{◌≡◌, ◌+◌, ◌<◌, not, T};
+ghost use Rattle.std.specs.Prelude.{◌≡◌, ◌+◌, ◌<◌};
 ghost use Rattle.power.specs.Board.{MayRaise, MayLower, MayLevel, Tries, raised, lowered, levelled};
 ghost use Rattle.power.specs.Mirrors.{Knows, state_at};
 ghost use Rattle.power.specs.declared.state.PartState.TheVariants.{Rising};
@@ -54,7 +54,6 @@ impl Driver {
         requires there { x.n < (P.board b.old).parts }
         requires rises { Rising tried ≡ state_at self.old.mirror x.n }
         requires few { tried.n < 64 }
-        requires unhit { T (not ((P.board b.old).hit x.n)) }
         requires can { 0 < self.old.left }
         requires knows { Knows self.old (P.board b.old) }
         ensures does { Tries (P.board b.old) x.n result (P.board b.new) }

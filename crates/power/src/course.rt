@@ -2,7 +2,6 @@
 ghost use Rattle.std.specs.Prelude.{◌≤◌};
 ghost use Rattle.power.specs.Tables.{at};
 ghost use Rattle.power.specs.Sound.{Sound};
-ghost use Rattle.power.specs.Walk.{Unhit};
 ghost use Rattle.power.specs.Mirrors.{Knows};
 ghost use Rattle.power.specs.Moves.{Targets, CameNearer, AllEnd};
 
@@ -14,7 +13,6 @@ impl Driver {
     pub(crate) fn go<P: Parts>(&mut self, b: &mut P, ceiling: &Levels, goal: &Levels) -> Progress
         requires few { (P.board b.old).parts ≤ 64 }
         requires sound { Sound (P.board b.old) }
-        requires unhit { Unhit (P.board b.old) }
         requires aims { Targets (P.board b.old) (at ceiling.now) (at goal.now) }
         requires knows { Knows self.old (P.board b.old) }
         ensures came { CameNearer (at goal.now) self.old.left (P.board b.old) self.new.left (P.board b.new) }

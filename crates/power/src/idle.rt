@@ -5,7 +5,7 @@ ghost use Rattle.power.specs.Sound.{Sound};
 ghost use Rattle.power.specs.Mirrors.{Knows, SaysAll};
 ghost use Rattle.power.specs.Moves.{OnlyParts};
 ghost use Rattle.power.specs.Rota.{NobodyWaits};
-ghost use Rattle.power.specs.Kept.{Ready, NobodyLost, Worked};
+ghost use Rattle.power.specs.Kept.{Kept, Worked};
 
 use crate::least::least;
 use crate::state::{Driver, Wishes};
@@ -15,13 +15,13 @@ use crate::{Keeper, Parts};
 const COMES_DOWN_AFTER: u32 = 32;
 
 impl Driver {
-    // Down to the least for what was granted: 64 parts at 15 are 960.
+    // Down to the least for what was granted; a tick's askings are enough.
     pub(crate) fn settle<P: Parts>(&mut self, b: &mut P, wishes: &Wishes)
         requires few { (P.board b.old).parts ≤ 64 }
         requires sound { Sound (P.board b.old) }
         requires says { SaysAll wishes.now (P.board b.old) }
         requires knows { Knows self.old (P.board b.old) }
-        requires room { 960 ≤ self.old.left }
+        requires all { self.old.left ≡ 1024 }
         ensures only { OnlyParts (P.board b.old) (P.board b.new) }
         ensures sound { Sound (P.board b.new) }
         ensures low { T (lean (P.board b.new)) }
@@ -39,9 +39,8 @@ impl Driver {
 
 impl Keeper {
     pub(crate) fn be_idle<P: Parts>(&mut self, b: &mut P)
-        requires ready { Ready self.old (P.board b.old) }
-        requires room { 960 ≤ self.old.driver.left }
-        requires lost { NobodyLost (P.board b.old) }
+        requires kept { Kept self.old (P.board b.old) }
+        requires all { self.old.driver.left ≡ 1024 }
         requires nobody { NobodyWaits self.old.wishes 0 32 }
         ensures { Worked None self.new (P.board b.new) }
     {

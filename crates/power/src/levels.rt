@@ -1,5 +1,5 @@
 // A level for each part: made, read, written and raised.
-ghost use Rattle.std.specs.Prelude.{◌≡◌, ℕ, ◌<◌, ◌≤◌, replicate, slice_set};
+ghost use Rattle.std.specs.Prelude.{◌≡◌, ℕ, replicate, slice_set};
 ghost use Rattle.power.specs.Board.{and_also};
 ghost use Rattle.power.specs.Tables.{at};
 
@@ -16,42 +16,21 @@ impl Levels {
     pub fn get(&self, x: PartId) -> u32
         ensures { result ≡ at self.now x.n }
     {
-        self.of[x.n as usize] as u32
+        self.of[x.n as usize]
     }
 
     pub fn put(&mut self, x: PartId, l: u32)
-        requires { l ≤ 255 }
         ensures { self.new.of ≡ slice_set self.old.of x.n l }
     {
-        self.of[x.n as usize] = l as u8;
+        self.of[x.n as usize] = l;
     }
 
     // x at l too, if it isn't as high.
     pub fn also(&mut self, x: PartId, l: u32)
-        requires { l ≤ 255 }
         ensures { (z : ℕ) → at self.new z ≡ and_also (at self.old) x.n l z }
     {
         if self.get(x) < l {
             self.put(x, l);
         }
-    }
-
-    // The same levels.
-    fn copied(&self) -> Levels
-        ensures { result.of ≡ self.now.of }
-    {
-        Levels { of: self.of }
-    }
-
-    // The same levels of the first parts, and all others off.
-    pub(crate) fn first(&self, parts: u32) -> Levels
-        ensures same { (x : ℕ) → x < parts → at result x ≡ at self.now x }
-        ensures off { (x : ℕ) → parts ≤ x → at result x ≡ 0 }
-    {
-        let mut ls = self.copied();
-        for n in parts..64 {
-            ls.put(PartId { n }, 0);
-        }
-        ls
     }
 }

@@ -1,26 +1,22 @@
 // The board, whoever uses it, the keeper of its power, and the days between.
 #![tactic(auto)]
 
-ghost use Rattle.std.specs.Prelude.{◌≡◌, ℕ, ◌+◌, ◌<◌, ◌≤◌, true, false, not, T, length};
-ghost use Rattle.power.specs.Board.{Board, MayRaise, MayLower, MayLevel, Tries, raised, lowered, levelled, is_rising, on_of, least_of, most_of, draw_at, why, called, may_tell, told, in_time, ticked, Between, fell_asked, AtStart};
+ghost use Rattle.std.specs.Prelude.{◌≡◌, ℕ, ◌+◌, ◌<◌, ◌≤◌, true, false, T, length};
+ghost use Rattle.power.specs.Board.{Board, MayRaise, MayLower, MayLevel, Tries, raised, lowered, levelled, is_rising, on_of, least_of, most_of, draw_at, why, called, may_tell, told, in_time, ticked, AtStart};
 ghost use Rattle.power.specs.Promise.{LeastServes, LeastIsLeast, MoreIsMore, CannotBe};
-ghost use Rattle.power.specs.Kept.{Kept, KeptOrFell, Worked};
+ghost use Rattle.power.specs.Kept.{Kept, Worked};
 
 pub mod aims;
 mod askings;
 mod course;
 mod down;
 mod driver;
-mod fallen;
 mod grants;
 pub mod guard;
-pub mod hits;
 mod idle;
 pub mod least;
 pub mod levels;
-mod lost;
 mod mirror;
-mod recover;
 pub mod refusal;
 mod rota;
 mod serve;
@@ -35,7 +31,6 @@ mod users;
 mod wishes;
 
 use crate::driver::ASKINGS;
-use crate::fallen::fallen;
 use crate::refusal::number;
 use crate::state::{Driver, Turn, Wishes};
 
@@ -94,7 +89,7 @@ pub trait Parts {
         ensures { board self.new ≡ raised x (board self.old) };
 
     fn good(&mut self, x: u32) -> bool
-        requires { (0 < (board self.old).left) × ((x < (board self.old).parts) × ((T (is_rising ((board self.old).part x))) × (T (not ((board self.old).hit x))))) }
+        requires { (0 < (board self.old).left) × ((x < (board self.old).parts) × (T (is_rising ((board self.old).part x)))) }
         ensures { Tries (board self.old) x result (board self.new) };
 
     fn lower(&mut self, x: u32)
@@ -104,18 +99,12 @@ pub trait Parts {
     fn level(&mut self, x: u32, v: u32)
         requires { MayLevel (board self.old) x v }
         ensures { board self.new ≡ levelled x v (board self.old) };
-
-    // did it go off by itself since this was last asked? This is no asking.
-    fn fell(&mut self, x: u32) -> bool
-        requires { x < (board self.old).parts }
-        ensures { (result ≡ (board self.old).fell x) × (board self.new ≡ fell_asked x (board self.old)) };
 }
 
 // Who uses it, which the keeper doesn't see.
 pub trait World: Parts {
-    // before a tick a part may have fallen
     fn next(&mut self) -> Next
-        ensures { Between (Self.board self.old) result (Self.board self.new) };
+        ensures { Self.board self.new ≡ Self.board self.old };
     // the call is taken, or turned away by a number
     fn said(&mut self, c: Call, no: u32)
         requires { no ≡ why c (Self.board self.old) }
@@ -170,16 +159,21 @@ impl Keeper {
     // a tick's work; one user may be told something
     pub fn work<P: Parts>(&mut self, b: &mut P) -> Option<(u32, Answer)>
         requires soon { 1024 ≤ (P.board b.old).left }
-        requires kept { KeptOrFell self.old (P.board b.old) }
+        requires kept { Kept self.old (P.board b.old) }
         ensures { Worked result self.new (P.board b.new) }
     {
         self.driver.left = ASKINGS;
-        match fallen(b) {
-            None => self.go_on(b),
-            Some(f) => {
-                self.recover(b, f);
-                self.rest_of_tick(b)
+        // while it's quiet nobody waits
+        if self.idle > 0 {
+            self.be_idle(b);
+            return None;
+        }
+        match self.wishes.head(self.turn.user) {
+            None => {
+                self.be_idle(b);
+                None
             }
+            Some(u) => self.attend(b, u),
         }
     }
 }

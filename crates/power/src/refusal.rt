@@ -16,9 +16,6 @@ pub const CANT_BE: u32 = 5;
 // A part that's needed doesn't get good.
 pub const NOT_GOOD: u32 = 6;
 
-// What they had is gone: a part that it hangs on gave way.
-pub const GONE: u32 = 7;
-
 pub(crate) fn number(r: Result<(), Refusal>) -> u32
     ensures { result ≡ number_of r }
 {

@@ -2,10 +2,9 @@
 ghost use Rattle.std.specs.Prelude.{◌≡◌, ◌<◌, T};
 ghost use Rattle.power.specs.Sound.{Sound};
 ghost use Rattle.power.specs.Moves.{OnlyParts};
-ghost use Rattle.power.specs.Walk.{Unhit};
 ghost use Rattle.power.specs.Rota.{IsHead};
 ghost use Rattle.power.specs.Turns.{AimsAt};
-ghost use Rattle.power.specs.Kept.{Mirrors, Kept, NobodyLost, Pursued, Worked};
+ghost use Rattle.power.specs.Kept.{Mirrors, Kept, Pursued, Worked};
 
 use crate::refusal::{CANT_BE, NOT_GOOD};
 use crate::state::{Progress, Wanted};
@@ -23,7 +22,6 @@ impl Keeper {
     ) -> Option<Answer>
         requires mirrors { Mirrors self.old (P.board b.old) }
         requires sound { Sound (P.board b.old) }
-        requires unhit { Unhit (P.board b.old) }
         requires part { x.n < (P.board b.old).parts }
         requires all { self.old.driver.left ≡ 1024 }
         requires aims { T self.old.turn.aiming → AimsAt (P.board b.old) self.old.turn.aims x.n l.n }
@@ -51,7 +49,6 @@ impl Keeper {
     pub(crate) fn attend<P: Parts>(&mut self, b: &mut P, u: UserId) -> Option<(u32, Answer)>
         requires kept { Kept self.old (P.board b.old) }
         requires all { self.old.driver.left ≡ 1024 }
-        requires lost { NobodyLost (P.board b.old) }
         requires head { IsHead self.old.wishes self.old.turn.user.n u.n }
         ensures { Worked result self.new (P.board b.new) }
     {

@@ -24,8 +24,6 @@ pub enum Wanted {
     Nothing,
     Asked(PartId, Level),
     Granted(PartId, Level),
-    // what was granted is gone, and the user isn't told yet
-    Lost,
 }
 
 // The state of each part: the board's own can't be read.

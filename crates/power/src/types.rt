@@ -1,4 +1,4 @@
-// Parts, levels and users, each a number with its bound, and tables with a place for each part.
+// Parts, levels and users, each a number with its bound, and a level for each part.
 ghost use Rattle.std.specs.Prelude.{◌≡◌, ◌<◌, ◌≤◌, length};
 
 // A part's number: a board has at most 64 parts.
@@ -26,14 +26,7 @@ pub struct UserId {
 // A level for each part, 0 where the part is off.
 #[derive(Drop)]
 pub struct Levels {
-    pub of: [u8; 64],
-    ghost long: { length of ≡ 64 },
-}
-
-// For each part, whether it is hit: it fell, or needs one that is.
-#[derive(Drop)]
-pub struct Hits {
-    pub of: [bool; 64],
+    pub of: [u32; 64],
     ghost long: { length of ≡ 64 },
 }
 

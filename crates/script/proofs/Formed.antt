@@ -5,7 +5,7 @@ use Rattle.std.proofs.lemmas.Bool.{cond-false, cases_Bool, ne_eqb}
 use Rattle.std.specs.List.{AllByRecursion as All}
 use Rattle.std.specs.Str.{bytes_eq}
 use Rattle.script.specs.Forms.{unwords, IsWord, Spells, Pairwise, NeedWords, SpellsNeed, need_before, needs_words, needs_part, part_words, ReadsBack}
-use Rattle.script.specs.Lines.{Written, after, levels, most, follow, needs, from_word, first_level, line_of, rest_of, first_of, user_line, with_number, only, slow_line, draws_line, part_line, part_with, gives, want, tick, bad, slow, fall}
+use Rattle.script.specs.Lines.{Written, after, levels, most, follow, needs, from_word, first_level, line_of, rest_of, first_of, user_line, with_number, only, slow_line, draws_line, part_line, part_with, gives, want, tick, bad, slow}
 use Rattle.script.specs.Text.{is_blank, ended, number_of, words_after, words_of}
 use Rattle.script.specs.declared.line.First.{First}
 use Rattle.script.specs.declared.line.First.TheVariants as first
@@ -101,11 +101,10 @@ user_first w u s =
     let tick = not_word w (codes "tick") u s refl in
     let bad = not_word w (codes "bad") u s refl in
     let slow = not_word w (codes "slow") u s refl in
-    let fall = not_word w (codes "fall") u s refl in
     let least = not_word w (codes "least") u s refl in
     let gives = not_word w (codes "gives") u s refl in
     let drawn = not_word w (codes "drawn") u s refl in
-    rw (part, run, new, tick, bad, slow, fall, least, gives, drawn, s) refl
+    rw (part, run, new, tick, bad, slow, least, gives, drawn, s) refl
 
 user_back : (w : List ℕ) (u : ℕ) (ws : List (List ℕ)) → Spells w u → line_of (w ∷ ws) ≡ user_line u ws
 user_back w u ws s = ap (λ (f : First). rest_of f ws) (user_first w u s)
@@ -125,5 +124,4 @@ reads_back =
       tick = λ w n s. spelt (λ m. only (tick m) []) w n s;
       bad = λ w x s. spelt (λ y. only (bad y) []) w x s;
       slow = λ w v x n s q h. spelt (λ y. with_number (slow_line y) (v ∷ [])) w x s ∙ spelt (λ m. slow_line x m []) v n q ∙ cond-false (eqb n 0) None (only (slow x n) []) (ne_eqb n 0 (λ z. omega arith));
-      fall = λ w x s. spelt (λ y. only (fall y) []) w x s;
     }

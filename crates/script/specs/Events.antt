@@ -13,7 +13,6 @@ printed (event.Raise x) = codes "raise " ++ decimal x
 printed (event.Good x) = codes "good " ++ decimal x
 printed (event.Level x l) = codes "level " ++ (decimal x ++ (codes " " ++ decimal l))
 printed (event.Lower x) = codes "lower " ++ decimal x
-printed (event.Fell x) = codes "fell " ++ decimal x
 printed (event.Drawn n) = decimal n
 printed event.NoPlan = codes "no plan"
 printed (event.NoLine n) = codes "line " ++ (decimal n ++ codes "?")

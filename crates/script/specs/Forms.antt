@@ -1,7 +1,7 @@
 -- The forms of a line as one writes it, and that each is read as what it means.
 use Rattle.std.specs.Prelude.{◌≡◌, ℕ, ◌<◌, false, List, [], ◌∷◌, ◌++◌, length, Some, codes}
 use Rattle.std.specs.List.{AllByRecursion}
-use Rattle.script.specs.Lines.{Written, line_of, part_with, run, new, least, gives, drawn, want, give, tick, bad, slow, fall}
+use Rattle.script.specs.Lines.{Written, line_of, part_with, run, new, least, gives, drawn, want, give, tick, bad, slow}
 use Rattle.script.specs.Text.{is_blank, number_of, words_of}
 
 -- words with single spaces between them
@@ -71,4 +71,3 @@ pub record ReadsBack : Type 0 where
   pub tick : (w : List ℕ) (n : ℕ) → Spells w n → line_of (codes "tick" ∷ w ∷ []) ≡ Some (tick n)
   pub bad : (w : List ℕ) (x : ℕ) → Spells w x → line_of (codes "bad" ∷ w ∷ []) ≡ Some (bad x)
   pub slow : (w v : List ℕ) (x n : ℕ) → Spells w x → Spells v n → 0 < n → line_of (codes "slow" ∷ w ∷ v ∷ []) ≡ Some (slow x n)
-  pub fall : (w : List ℕ) (x : ℕ) → Spells w x → line_of (codes "fall" ∷ w ∷ []) ≡ Some (fall x)

@@ -1,9 +1,8 @@
 -- What a line says, word by word.
-use Rattle.std.specs.Prelude.{◌≡◌, ℕ, zero, suc, Bool, true, cond, ◌&&◌, leb, List, [], ◌∷◌, ◌++◌, map, length, Some, None, Ok, Err, codes, Option, Result, ◌==◌, nat_le}
+use Rattle.std.specs.Prelude.{ℕ, zero, suc, Bool, true, cond, ◌&&◌, leb, List, [], ◌∷◌, ◌++◌, map, length, Some, None, Ok, Err, codes, Option, Result, ◌==◌, nat_le}
 use Rattle.std.specs.Str.{bytes_eq}
 use Rattle.power.specs.Board.{Need}
 use Rattle.sim.specs.Plans.{needs_of, draw_of}
-use Rattle.sim.specs.declared.plan.PlanPart.{PlanPart}
 use Rattle.script.specs.Text.{number_of}
 use Rattle.script.specs.declared.line.First.{First}
 use Rattle.script.specs.declared.line.First.TheVariants as first
@@ -64,7 +63,6 @@ pub data Said : Type 0 where
   tick : ℕ → Said
   bad : ℕ → Said
   slow : ℕ → ℕ → Said
-  fall : ℕ → Said
 
 -- part x with these draws, at level 1, 2, .., and these needs, if a plan can hold them; off it draws nothing
 abbrev pub part_with : ℕ → List ℕ → List Written → Said
@@ -152,11 +150,10 @@ first_of w =
     (cond (bytes_eq w (codes "tick")) first.Tick
     (cond (bytes_eq w (codes "bad")) first.Bad
     (cond (bytes_eq w (codes "slow")) first.Slow
-    (cond (bytes_eq w (codes "fall")) first.Fall
     (cond (bytes_eq w (codes "least")) first.Least
     (cond (bytes_eq w (codes "gives")) first.Gives
     (cond (bytes_eq w (codes "drawn")) first.Drawn
-    (user_of (number_of w)))))))))))
+    (user_of (number_of w))))))))))
 
 -- what the words after that say
 abbrev pub rest_of : First → List (List ℕ) → Option Said
@@ -166,7 +163,6 @@ rest_of first.New ws = only new ws
 rest_of first.Tick ws = with_number (λ n. only (tick n)) ws
 rest_of first.Bad ws = with_number (λ x. only (bad x)) ws
 rest_of first.Slow ws = with_number (λ x. with_number (slow_line x)) ws
-rest_of first.Fall ws = with_number (λ x. only (fall x)) ws
 rest_of first.Least ws = only least ws
 rest_of first.Gives ws = with_number (λ n. only (gives n)) ws
 rest_of first.Drawn ws = only drawn ws
@@ -178,26 +174,21 @@ abbrev pub line_of : List (List ℕ) → Option Said
 line_of [] = None
 line_of (w ∷ ws) = rest_of (first_of w) ws
 
--- what was read; p is the part that was, if it is one
-abbrev pub said_of : PlanPart → Line → Said
-said_of p (line.Part x) = part x (draw_of p) (needs_of p)
-said_of p (line.Unfit x) = unfit x
-said_of p line.Run = run
-said_of p line.New = new
-said_of p (line.Want u x l) = want u x l
-said_of p (line.Give u) = give u
-said_of p (line.Tick n) = tick n
-said_of p (line.Bad x) = bad x
-said_of p (line.Slow x n) = slow x n
-said_of p (line.Fall x) = fall x
-said_of p line.Least = least
-said_of p (line.Gives n) = gives n
-said_of p line.Drawn = drawn
+-- what was read
+abbrev pub said_of : Line → Said
+said_of (line.Part x p) = part x (draw_of p) (needs_of p)
+said_of (line.Unfit x) = unfit x
+said_of line.Run = run
+said_of line.New = new
+said_of (line.Want u x l) = want u x l
+said_of (line.Give u) = give u
+said_of (line.Tick n) = tick n
+said_of (line.Bad x) = bad x
+said_of (line.Slow x n) = slow x n
+said_of line.Least = least
+said_of (line.Gives n) = gives n
+said_of line.Drawn = drawn
 
-abbrev pub heard : PlanPart → Result Line NoLine → Option Said
-heard p (Ok l) = Some (said_of p l)
-heard p (Err e) = None
-
--- that was read, and no part
-abbrev pub Hears : Result Line NoLine → Option Said → Type 0
-Hears r o = (p : PlanPart) → heard p r ≡ o
+abbrev pub heard : Result Line NoLine → Option Said
+heard (Ok l) = Some (said_of l)
+heard (Err e) = None

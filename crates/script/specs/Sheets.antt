@@ -1,11 +1,6 @@
 -- What is written into memory: a sheet, or the buffer of a printer.
-use Rattle.std.specs.Prelude.{◌≡◌, ℕ, ◌+◌, ◌⊎◌, List, ◌++◌, length, take, MatchBool}
+use Rattle.std.specs.Prelude.{◌≡◌, ℕ, ◌⊎◌, List, ◌++◌, take, MatchBool}
 use Rattle.script.specs.declared.sheet.Sheet.{Sheet}
-
--- the bytes stand in memory from a place on, up to the end, after what stood before
-pub record Wrote (was : List ℕ) (place : ℕ) (bs is : List ℕ) (end : ℕ) : Type 0 where
-  pub ends : end ≡ place + length bs
-  pub text : take end is ≡ take place was ++ bs
 
 -- the bytes stand after what was written, or there was no room and nothing changed
 abbrev pub Added : Sheet → Sheet → List ℕ → Type 0

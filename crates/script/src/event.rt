@@ -11,8 +11,6 @@ pub enum Event {
     Good(u32),
     Level(u32, u32),
     Lower(u32),
-    // a part went off by itself
-    Fell(u32),
     // what all parts draw
     Drawn(u64),
     NoPlan,
@@ -25,5 +23,5 @@ pub trait Say {
     fn say(&mut self, event: Event);
 
     // The levels with single spaces between them.
-    fn say_levels(&mut self, levels: &[u8]);
+    fn say_levels(&mut self, levels: &[u32]);
 }

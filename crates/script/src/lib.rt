@@ -10,6 +10,7 @@ mod needs;
 pub mod numbers;
 pub mod printer;
 pub mod read;
+mod row;
 pub mod sheet;
 mod spread;
 pub mod words;

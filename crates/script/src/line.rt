@@ -1,8 +1,10 @@
 // What a line says.
+use sim::plan::PlanPart;
+
 #[derive(Clone, Copy)]
 pub enum Line {
-    // a part; what it draws and needs is written where the reader was told to
-    Part(u32),
+    // a part, and what it draws and needs
+    Part(u32, PlanPart),
     // a part whose needs or draws no plan can hold
     Unfit(u32),
     Run,
@@ -14,8 +16,6 @@ pub enum Line {
     Bad(u32),
     // which part is good when asked for the how manyth time
     Slow(u32, u32),
-    // which part gives way before the next tick
-    Fall(u32),
     Least,
     // what the board gives
     Gives(u32),
@@ -43,7 +43,6 @@ pub enum First {
     Tick,
     Bad,
     Slow,
-    Fall,
     Least,
     Gives,
     Drawn,

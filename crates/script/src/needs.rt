@@ -91,14 +91,14 @@ impl Needs {
         }
     }
 
-    // The line of part x with these draws and needs, which are written into `part`.
-    pub fn line(self, x: u32, draws: Draws, part: &mut PlanPart) -> Line
-        ensures { (ds : List ℕ) (ws : List Written) → Drew draws ds → Gathered self ws → said_of part.new result ≡ part_with x ds ws }
+    // The line of part x with these draws and needs.
+    pub fn line(self, x: u32, draws: Draws) -> Line
+        ensures { (ds : List ℕ) (ws : List Written) → Drew draws ds → Gathered self ws → said_of result ≡ part_with x ds ws }
     {
         if draws.fits && self.fits {
-            *part = self.part;
+            let mut part = self.part;
             part.set_draw(draws.draw);
-            Line::Part(x)
+            Line::Part(x, part)
         } else {
             Line::Unfit(x)
         }

@@ -4,7 +4,8 @@ ghost use Rattle.script.specs.Events.{printed, spaced};
 ghost use Rattle.script.specs.Sheets.{Waits};
 
 use super::event::{Event, Say};
-use super::write::{EVENT_ROOM, LEVELS_ROOM, event_line, levels_line, put_at};
+use super::row::Row;
+use super::write::{event_line, levels_line, put_at};
 use std::io::Write;
 
 // `failed` says that something could not be printed; nothing is printed after that.
@@ -77,19 +78,22 @@ impl<W: Write> Say for Printer<'_, W> {
     fn say(&mut self, event: Event)
         ensures { MatchBool self.new.failed (Unit {0}) (Waits (take self.old.len self.old.buffer) (printed event ++ 10 ∷ []) (take self.new.len self.new.buffer)) }
     {
-        if EVENT_ROOM > 4096 - self.len {
-            self.flush();
+        let mut row = Row::empty();
+        if event_line(&mut row, event) {
+            self.put(row.text());
+        } else {
+            self.failed = true;
         }
-        self.len = event_line(&mut self.buffer, self.len, event);
     }
 
-    fn say_levels(&mut self, levels: &[u8])
+    fn say_levels(&mut self, levels: &[u32])
         ensures { MatchBool self.new.failed (Unit {0}) (Waits (take self.old.len self.old.buffer) (spaced levels.now ++ 10 ∷ []) (take self.new.len self.new.buffer)) }
     {
-        let mut line = [0; LEVELS_ROOM];
-        match levels_line(&mut line, levels) {
-            Some(end) => self.put(&line[0..end]),
-            None => self.failed = true,
+        let mut row = Row::empty();
+        if levels_line(&mut row, levels) {
+            self.put(row.text());
+        } else {
+            self.failed = true;
         }
     }
 }

@@ -2,20 +2,18 @@
 ghost use Rattle.std.specs.Prelude.{◌≡◌, ℕ, List, [], ◌∷◌};
 ghost use Rattle.script.specs.Text.{words_of};
 ghost use Rattle.script.specs.Forms.{ReadsBack};
-ghost use Rattle.script.specs.Lines.{Hears, draws_line, first_of, heard, line_of, needs_line, only, part_line, part_with, said_of, slow_line, user_line, with_number, tick, bad, fall, gives, want};
+ghost use Rattle.script.specs.Lines.{draws_line, first_of, heard, line_of, needs_line, only, part_line, part_with, said_of, slow_line, user_line, with_number, tick, bad, gives, want};
 ghost use Rattle.script.specs.Steps.{Drew};
-ghost use Rattle.sim.specs.declared.plan.PlanPart.{PlanPart};
 
 use super::draws::{Draws, more_draws};
 use super::line::{First, Line, NoLine};
 use super::needs::{Needs, all_needs};
 use super::numbers::decimal;
 use super::words::{Words, is_word, number};
-use sim::plan::PlanPart;
 
-// What a text says, or why it says nothing. What a part draws and needs is written into `part`.
-pub fn read_line(text: &[u8], part: &mut PlanPart) -> Result<Line, NoLine>
-    ensures { heard part.new result ≡ line_of (words_of text.now) }
+// What a text says, or why it says nothing.
+pub fn read_line(text: &[u8]) -> Result<Line, NoLine>
+    ensures { heard result ≡ line_of (words_of text.now) }
 {
     let mut words = Words { rest: text };
     let word = match words.next() {
@@ -23,13 +21,12 @@ pub fn read_line(text: &[u8], part: &mut PlanPart) -> Result<Line, NoLine>
         Some(word) => word,
     };
     match first(word) {
-        First::Part => read_part(words, part),
+        First::Part => part(words),
         First::Run => alone(Line::Run, words),
         First::New => alone(Line::New, words),
         First::Tick => tick(words),
         First::Bad => bad(words),
         First::Slow => slow(words),
-        First::Fall => fall(words),
         First::Least => alone(Line::Least, words),
         First::Gives => gives(words),
         First::Drawn => alone(Line::Drawn, words),
@@ -60,8 +57,6 @@ fn first(word: &[u8]) -> First
         First::Bad
     } else if is_word(word, b"slow") {
         First::Slow
-    } else if is_word(word, b"fall") {
-        First::Fall
     } else if is_word(word, b"least") {
         First::Least
     } else if is_word(word, b"gives") {
@@ -78,7 +73,7 @@ fn first(word: &[u8]) -> First
 
 // A line that has no word more.
 fn alone(line: Line, mut words: Words<'_>) -> Result<Line, NoLine>
-    ensures { (p : PlanPart) → heard p result ≡ only (said_of p line) (words_of words.entry.rest.now) }
+    ensures { heard result ≡ only (said_of line) (words_of words.entry.rest.now) }
 {
     match words.next() {
         None => Ok(line),
@@ -87,35 +82,28 @@ fn alone(line: Line, mut words: Words<'_>) -> Result<Line, NoLine>
 }
 
 fn tick(mut words: Words<'_>) -> Result<Line, NoLine>
-    ensures { Hears result (with_number (λ n. only (tick n)) (words_of words.entry.rest.now)) }
+    ensures { heard result ≡ with_number (λ n. only (tick n)) (words_of words.entry.rest.now) }
 {
     let n = number(&mut words)?;
     alone(Line::Tick(n), words)
 }
 
 fn bad(mut words: Words<'_>) -> Result<Line, NoLine>
-    ensures { Hears result (with_number (λ x. only (bad x)) (words_of words.entry.rest.now)) }
+    ensures { heard result ≡ with_number (λ x. only (bad x)) (words_of words.entry.rest.now) }
 {
     let x = number(&mut words)?;
     alone(Line::Bad(x), words)
 }
 
-fn fall(mut words: Words<'_>) -> Result<Line, NoLine>
-    ensures { Hears result (with_number (λ x. only (fall x)) (words_of words.entry.rest.now)) }
-{
-    let x = number(&mut words)?;
-    alone(Line::Fall(x), words)
-}
-
 fn gives(mut words: Words<'_>) -> Result<Line, NoLine>
-    ensures { Hears result (with_number (λ n. only (gives n)) (words_of words.entry.rest.now)) }
+    ensures { heard result ≡ with_number (λ n. only (gives n)) (words_of words.entry.rest.now) }
 {
     let n = number(&mut words)?;
     alone(Line::Gives(n), words)
 }
 
 fn slow(mut words: Words<'_>) -> Result<Line, NoLine>
-    ensures { Hears result (with_number (λ x. with_number (slow_line x)) (words_of words.entry.rest.now)) }
+    ensures { heard result ≡ with_number (λ x. with_number (slow_line x)) (words_of words.entry.rest.now) }
 {
     let x = number(&mut words)?;
     let n = number(&mut words)?;
@@ -127,7 +115,7 @@ fn slow(mut words: Words<'_>) -> Result<Line, NoLine>
 
 // What a user does: `give`, or `want X L`.
 fn by_user(user: u32, mut words: Words<'_>) -> Result<Line, NoLine>
-    ensures { Hears result (user_line user (words_of words.entry.rest.now)) }
+    ensures { heard result ≡ user_line user (words_of words.entry.rest.now) }
 {
     match words.next() {
         None => Err(NoLine::MissingWord),
@@ -144,7 +132,7 @@ fn by_user(user: u32, mut words: Words<'_>) -> Result<Line, NoLine>
 }
 
 fn want(user: u32, mut words: Words<'_>) -> Result<Line, NoLine>
-    ensures { Hears result (with_number (λ x. with_number (λ l. only (want user x l))) (words_of words.entry.rest.now)) }
+    ensures { heard result ≡ with_number (λ x. with_number (λ l. only (want user x l))) (words_of words.entry.rest.now) }
 {
     let x = number(&mut words)?;
     let l = number(&mut words)?;
@@ -152,17 +140,17 @@ fn want(user: u32, mut words: Words<'_>) -> Result<Line, NoLine>
 }
 
 // A part that draws nothing and needs nothing, or what follows `draws` or `needs`.
-fn read_part(mut words: Words<'_>, part: &mut PlanPart) -> Result<Line, NoLine>
-    ensures { heard part.new result ≡ with_number part_line (words_of words.entry.rest.now) }
+fn part(mut words: Words<'_>) -> Result<Line, NoLine>
+    ensures { heard result ≡ with_number part_line (words_of words.entry.rest.now) }
 {
     let x = number(&mut words)?;
     match words.next() {
-        None => Ok(without_needs(x, Draws::none(), part)),
+        None => Ok(without_needs(x, Draws::none())),
         Some(word) => {
             if is_word(word, b"draws") {
-                with_draws(x, words, part)
+                with_draws(x, words)
             } else if is_word(word, b"needs") {
-                with_needs(x, Draws::none(), words, part)
+                with_needs(x, Draws::none(), words)
             } else {
                 Err(NoLine::UnknownWord)
             }
@@ -171,37 +159,32 @@ fn read_part(mut words: Words<'_>, part: &mut PlanPart) -> Result<Line, NoLine>
 }
 
 // Part x that needs nothing.
-fn without_needs(x: u32, draws: Draws, part: &mut PlanPart) -> Line
-    ensures { (ds : List ℕ) → Drew draws ds → said_of part.new result ≡ part_with x ds [] }
+fn without_needs(x: u32, draws: Draws) -> Line
+    ensures { (ds : List ℕ) → Drew draws ds → said_of result ≡ part_with x ds [] }
 {
     let needs = Needs::none();
-    needs.line(x, draws, part)
+    needs.line(x, draws)
 }
 
 // What part x needs, after what it draws.
-fn with_needs(
-    x: u32,
-    draws: Draws,
-    mut words: Words<'_>,
-    part: &mut PlanPart,
-) -> Result<Line, NoLine>
-    ensures { (ds : List ℕ) → Drew draws ds → heard part.new result ≡ needs_line x ds (words_of words.entry.rest.now) }
+fn with_needs(x: u32, draws: Draws, mut words: Words<'_>) -> Result<Line, NoLine>
+    ensures { (ds : List ℕ) → Drew draws ds → heard result ≡ needs_line x ds (words_of words.entry.rest.now) }
 {
     let needs = all_needs(&mut words)?;
-    Ok(needs.line(x, draws, part))
+    Ok(needs.line(x, draws))
 }
 
 // What part x draws, and what it needs.
-fn with_draws(x: u32, mut words: Words<'_>, part: &mut PlanPart) -> Result<Line, NoLine>
-    ensures { heard part.new result ≡ with_number (λ d. draws_line x (d ∷ [])) (words_of words.entry.rest.now) }
+fn with_draws(x: u32, mut words: Words<'_>) -> Result<Line, NoLine>
+    ensures { heard result ≡ with_number (λ d. draws_line x (d ∷ [])) (words_of words.entry.rest.now) }
 {
     let first = number(&mut words)?;
     let mut draws = Draws::none();
     draws.push(first);
     let more = more_draws(&mut words, &mut draws)?;
     if more {
-        with_needs(x, draws, words, part)
+        with_needs(x, draws, words)
     } else {
-        Ok(without_needs(x, draws, part))
+        Ok(without_needs(x, draws))
     }
 }

@@ -4,7 +4,8 @@ ghost use Rattle.script.specs.Events.{printed, spaced};
 ghost use Rattle.script.specs.Sheets.{Added};
 
 use super::event::{Event, Say};
-use super::write::{EVENT_ROOM, LEVELS_ROOM, event_line, levels_line, put_at};
+use super::row::Row;
+use super::write::{event_line, levels_line, put_at};
 
 // The first `len` bytes are written. Where a line had no room, that and all that follow are left out.
 #[derive(Drop)]
@@ -62,26 +63,22 @@ impl Say for Sheet<'_> {
     fn say(&mut self, event: Event)
         ensures { Added self.old self.new (printed event ++ 10 ∷ []) }
     {
-        if self.full {
-            return;
+        let mut row = Row::empty();
+        if event_line(&mut row, event) {
+            self.put(row.text());
+        } else {
+            self.full = true;
         }
-        let at = self.len;
-        if at <= self.text.len() && EVENT_ROOM <= self.text.len() - at {
-            self.len = event_line(self.text, at, event);
-            return;
-        }
-        let mut line = [0; EVENT_ROOM];
-        let end = event_line(&mut line, 0, event);
-        self.put(&line[0..end]);
     }
 
-    fn say_levels(&mut self, levels: &[u8])
+    fn say_levels(&mut self, levels: &[u32])
         ensures { Added self.old self.new (spaced levels.now ++ 10 ∷ []) }
     {
-        let mut line = [0; LEVELS_ROOM];
-        match levels_line(&mut line, levels) {
-            Some(end) => self.put(&line[0..end]),
-            None => self.full = true,
+        let mut row = Row::empty();
+        if levels_line(&mut row, levels) {
+            self.put(row.text());
+        } else {
+            self.full = true;
         }
     }
 }

@@ -1,15 +1,10 @@
-// Values are written as text into lent memory, each after what stands there; where it ends is given back.
-ghost use Rattle.std.specs.Prelude.{◌≡◌, ◌+◌, ◌<◌, ◌≤◌, [], ◌∷◌, ◌++◌, length, take, drop, IfSome, if◌then◌else◌, decimal};
+// Values are written as text into fixed memory.
+ghost use Rattle.std.specs.Prelude.{◌≡◌, ◌+◌, ◌<◌, ◌≤◌, true, false, [], ◌∷◌, ◌++◌, length, take, drop, if◌then◌else◌, decimal, MatchBool};
 ghost use Rattle.script.specs.Events.{printed, spaced};
-ghost use Rattle.script.specs.Sheets.{Wrote};
+ghost use Rattle.script.specs.Rows.{row_text};
 
 use super::event::Event;
-
-// Room for the line of any event.
-pub const EVENT_ROOM: usize = 32;
-
-// Room for the levels of 64 parts.
-pub const LEVELS_ROOM: usize = 256;
+use super::row::Row;
 
 // Copies bytes to a place in memory.
 pub fn put_at(memory: &mut [u8], at: usize, bytes: &[u8])
@@ -21,139 +16,123 @@ pub fn put_at(memory: &mut [u8], at: usize, bytes: &[u8])
     memory[at..end].copy_from_slice(bytes);
 }
 
-fn put_text(memory: &mut [u8], at: usize, bytes: &[u8]) -> usize
-    requires { at + length bytes.now ≤ length memory.old }
-    ensures { Wrote memory.old at bytes.now memory.new result }
-{
-    put_at(memory, at, bytes);
-    at + bytes.len()
-}
-
-fn put_byte(memory: &mut [u8], at: usize, b: u8) -> usize
-    requires { at < length memory.old }
-    ensures { Wrote memory.old at (b ∷ []) memory.new result }
-{
-    memory[at] = b;
-    at + 1
-}
-
-// A number's digits.
-fn put_number(memory: &mut [u8], at: usize, n: u64) -> usize
-    requires { at + length (decimal n) ≤ length memory.old }
-    ensures { Wrote memory.old at (decimal n) memory.new result }
-{
-    if n < 10 {
-        return put_byte(memory, at, b'0' + n as u8);
+impl Row {
+    pub fn empty() -> Row
+        ensures { row_text result ≡ [] }
+    {
+        Row {
+            bytes: [0; 256],
+            len: 0,
+        }
     }
-    let end = put_number(memory, at, n / 10);
-    put_byte(memory, end, b'0' + (n % 10) as u8)
-}
 
-// The same of a number that is mostly below 100.
-fn put_small(memory: &mut [u8], at: usize, n: u32) -> usize
-    requires { at + 10 ≤ length memory.old }
-    ensures wrote { Wrote memory.old at (decimal n) memory.new result }
-    ensures short { result ≤ at + 10 }
-{
-    if n < 10 {
-        return put_byte(memory, at, b'0' + n as u8);
+    // Bytes at the end, if there is room.
+    pub fn push(&mut self, bytes: &[u8]) -> bool
+        ensures wrote { MatchBool result (row_text self.new ≡ row_text self.old ++ bytes.now) (Unit {0}) }
+        ensures full { MatchBool result (Unit {0}) ((self.new ≡ self.old) × (256 < self.old.len + length bytes.now)) }
+    {
+        if bytes.len() > 256 - self.len {
+            return false;
+        }
+        put_at(&mut self.bytes, self.len, bytes);
+        self.len += bytes.len();
+        true
     }
-    if n < 100 {
-        let end = put_byte(memory, at, b'0' + (n / 10) as u8);
-        return put_byte(memory, end, b'0' + (n % 10) as u8);
+
+    fn push_byte(&mut self, b: u8) -> bool
+        ensures { MatchBool result (row_text self.new ≡ row_text self.old ++ b ∷ []) (Unit {0}) }
+    {
+        if self.len >= 256 {
+            return false;
+        }
+        self.bytes[self.len] = b;
+        self.len += 1;
+        true
     }
-    put_number(memory, at, n as u64)
-}
 
-// The same of any number.
-fn put_large(memory: &mut [u8], at: usize, n: u64) -> usize
-    requires { at + 20 ≤ length memory.old }
-    ensures wrote { Wrote memory.old at (decimal n) memory.new result }
-    ensures short { result ≤ at + 20 }
-{
-    put_number(memory, at, n)
-}
+    // A number's digits at the end.
+    pub fn push_number(&mut self, n: u64) -> bool
+        ensures { MatchBool result (row_text self.new ≡ row_text self.old ++ decimal n) (Unit {0}) }
+    {
+        if n < 10 {
+            return self.push_byte(b'0' + n as u8);
+        }
+        if !self.push_number(n / 10) {
+            return false;
+        }
+        self.push_byte(b'0' + (n % 10) as u8)
+    }
 
-// A word and a number.
-fn put_both(memory: &mut [u8], at: usize, word: &[u8], n: u32) -> usize
-    requires { at + length word.now + 10 ≤ length memory.old }
-    ensures wrote { Wrote memory.old at (word.now ++ decimal n) memory.new result }
-    ensures short { result ≤ at + length word.now + 10 }
-{
-    let end = put_text(memory, at, word);
-    put_small(memory, end, n)
+    // A word and a number.
+    fn push_both(&mut self, word: &[u8], n: u32) -> bool
+        ensures { MatchBool result (row_text self.new ≡ row_text self.old ++ (word.now ++ decimal n)) (Unit {0}) }
+    {
+        if !self.push(word) {
+            return false;
+        }
+        self.push_number(n as u64)
+    }
+
+    // A number and a question mark.
+    fn push_asked(&mut self, n: u64) -> bool
+        ensures { MatchBool result (row_text self.new ≡ row_text self.old ++ (decimal n ++ 63 ∷ [])) (Unit {0}) }
+    {
+        self.push_number(n) && self.push(b"?")
+    }
+
+    // What was written.
+    pub fn text(&self) -> &[u8]
+        ensures { result.now ≡ row_text self.now }
+    {
+        &self.bytes[0..self.len]
+    }
 }
 
 // The text of an event.
-fn put_event(memory: &mut [u8], at: usize, event: Event) -> usize
-    requires { at + 31 ≤ length memory.old }
-    ensures wrote { Wrote memory.old at (printed event) memory.new result }
-    ensures short { result ≤ at + 31 }
+fn write_event(row: &mut Row, event: Event) -> bool
+    ensures { MatchBool result (row_text row.new ≡ row_text row.old ++ printed event) (Unit {0}) }
 {
     match event {
-        Event::Taken => put_text(memory, at, b"taken"),
-        Event::Away(why) => put_both(memory, at, b"away ", why),
-        Event::Done(user) => {
-            let end = put_small(memory, at, user);
-            put_text(memory, end, b" done")
-        }
-        Event::No(user, why) => {
-            let end = put_small(memory, at, user);
-            put_both(memory, end, b" no ", why)
-        }
-        Event::Raise(x) => put_both(memory, at, b"raise ", x),
-        Event::Good(x) => put_both(memory, at, b"good ", x),
-        Event::Level(x, level) => {
-            let end = put_both(memory, at, b"level ", x);
-            put_both(memory, end, b" ", level)
-        }
-        Event::Lower(x) => put_both(memory, at, b"lower ", x),
-        Event::Fell(x) => put_both(memory, at, b"fell ", x),
-        Event::Drawn(sum) => put_large(memory, at, sum),
-        Event::NoPlan => put_text(memory, at, b"no plan"),
-        Event::NoLine(number) => {
-            let start = put_text(memory, at, b"line ");
-            let end = put_large(memory, start, number);
-            put_text(memory, end, b"?")
-        }
+        Event::Taken => row.push(b"taken"),
+        Event::Away(why) => row.push_both(b"away ", why),
+        Event::Done(user) => row.push_number(user as u64) && row.push(b" done"),
+        Event::No(user, why) => row.push_number(user as u64) && row.push_both(b" no ", why),
+        Event::Raise(x) => row.push_both(b"raise ", x),
+        Event::Good(x) => row.push_both(b"good ", x),
+        Event::Level(x, level) => row.push_both(b"level ", x) && row.push_both(b" ", level),
+        Event::Lower(x) => row.push_both(b"lower ", x),
+        Event::Drawn(sum) => row.push_number(sum),
+        Event::NoPlan => row.push(b"no plan"),
+        Event::NoLine(number) => row.push(b"line ") && row.push_asked(number),
     }
 }
 
 // The line of an event.
-pub fn event_line(memory: &mut [u8], at: usize, event: Event) -> usize
-    requires { at + 32 ≤ length memory.old }
-    ensures wrote { Wrote memory.old at (printed event ++ 10 ∷ []) memory.new result }
-    ensures short { result ≤ at + 32 }
+pub fn event_line(row: &mut Row, event: Event) -> bool
+    ensures { MatchBool result (row_text row.new ≡ row_text row.old ++ (printed event ++ 10 ∷ [])) (Unit {0}) }
 {
-    let end = put_event(memory, at, event);
-    put_byte(memory, end, b'\n')
+    write_event(row, event) && row.push(b"\n")
 }
 
 // One level more, after a space or as the first.
-fn put_level(memory: &mut [u8], at: usize, after: bool, level: u32) -> usize
-    requires { at + 11 ≤ length memory.old }
-    ensures wrote { Wrote memory.old at ((if after then 32 ∷ [] else []) ++ decimal level) memory.new result }
-    ensures short { result ≤ at + 11 }
+fn write_level(row: &mut Row, after: bool, level: u32) -> bool
+    ensures { MatchBool result (row_text row.new ≡ row_text row.old ++ ((if after then 32 ∷ [] else []) ++ decimal level)) (Unit {0}) }
 {
     if after {
-        return put_both(memory, at, b" ", level);
+        return row.push_both(b" ", level);
     }
-    put_small(memory, at, level)
+    row.push_number(level as u64)
 }
 
-// The line of levels, with single spaces between them, if there is room for one more than these.
-pub fn levels_line(memory: &mut [u8], levels: &[u8]) -> Option<usize>
-    ensures { IfSome result (λ end. (take end memory.new ≡ spaced levels.now ++ 10 ∷ []) × (end ≤ length memory.new)) }
+// The line of levels, with single spaces between them.
+pub fn levels_line(row: &mut Row, levels: &[u32]) -> bool
+    requires { row_text row.old ≡ [] }
+    ensures { MatchBool result (row_text row.new ≡ spaced levels.now ++ 10 ∷ []) (Unit {0}) }
 {
-    let mut len = 0;
     for (i, level) in levels.iter().enumerate() {
-        if memory.len() - len < 12 {
-            return None;
+        if !write_level(row, i > 0, *level) {
+            return false;
         }
-        len = put_level(memory, len, i > 0, *level as u32);
     }
-    if len == memory.len() {
-        return None;
-    }
-    Some(put_byte(memory, len, b'\n'))
+    row.push(b"\n")
 }

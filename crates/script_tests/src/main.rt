@@ -48,9 +48,9 @@ fn show_part(rt: &HostRuntime, part: PlanPart) -> io::Result<()> {
     Ok(())
 }
 
-fn show(rt: &HostRuntime, line: Line, part: PlanPart) -> io::Result<()> {
+fn show(rt: &HostRuntime, line: Line) -> io::Result<()> {
     match line {
-        Line::Part(x) => {
+        Line::Part(x, part) => {
             println!(rt; "part {x}")?;
             show_part(rt, part)
         }
@@ -62,7 +62,6 @@ fn show(rt: &HostRuntime, line: Line, part: PlanPart) -> io::Result<()> {
         Line::Tick(n) => println!(rt; "tick {n}"),
         Line::Bad(x) => println!(rt; "bad {x}"),
         Line::Slow(x, n) => println!(rt; "slow {x} {n}"),
-        Line::Fall(x) => println!(rt; "fall {x}"),
         Line::Least => println!(rt; "least"),
         Line::Gives(n) => println!(rt; "the board gives {n}"),
         Line::Drawn => println!(rt; "drawn"),
@@ -77,7 +76,6 @@ fn show_events(rt: &HostRuntime) {
         printer.say(Event::Level(k, 15));
     }
     printer.say(Event::NoLine(18_446_744_073_709_551_615));
-    printer.say(Event::Fell(63));
     printer.say(Event::Drawn(274_877_906_880));
     printer.say_levels(&[1, 0, 15]);
     printer.say_levels(&[]);
@@ -89,15 +87,14 @@ fn main(rt: HostRuntime) -> io::Result<()> {
     let mut input = rt.stdin();
     let mut lines = StreamLines::new(&mut input);
     let mut line = LineBuffer::new();
-    let mut part = PlanPart::none();
     for _ in 0..1000u32 {
         if !lines.next_line(&mut line) {
             break;
         }
         match line.text() {
             None => println!(rt; "too long")?,
-            Some(text) => match read_line(text, &mut part) {
-                Ok(said) => show(&rt, said, part)?,
+            Some(text) => match read_line(text) {
+                Ok(said) => show(&rt, said)?,
                 Err(no) => {
                     let why = reason(no);
                     println!(rt; "no line: {why}")?

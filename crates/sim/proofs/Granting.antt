@@ -1,7 +1,7 @@
 -- What is granted, user by user. Assumes nothing.
 use Rattle.std.proofs.Common.{◌≡◌, ℕ, ◌+◌, sym, refl, add-one, arith}
 use Rattle.std.proofs.lemmas.Bool.Decides.{nat_tests}
-use Rattle.power.specs.Board.{None', Asked, Granted, Lost, want_of, most, larger, and_also}
+use Rattle.power.specs.Board.{None', Asked, Granted, want_of, most, larger, and_also}
 
 pub most_none : (f : ℕ → ℕ) → 0 ≡ most 0 f
 unfolding most
@@ -18,10 +18,6 @@ nothing_more x m = grind (arith, nat_tests)
 pub asked_more : (x m y l a : ℕ) → m ≡ larger m (want_of x (Asked y l a))
 unfolding want_of
 asked_more x m y l a = grind (arith, nat_tests)
-
-pub lost_more : (x m : ℕ) → m ≡ larger m (want_of x Lost)
-unfolding want_of
-lost_more x m = grind (arith, nat_tests)
 
 pub granted_more : (f : ℕ → ℕ) (x y l : ℕ) → and_also f y l x ≡ larger (f x) (want_of x (Granted y l))
 unfolding want_of

@@ -1,5 +1,5 @@
+pub mod Aging
 pub mod Called
-pub mod Changing
 pub mod Fresh
 pub mod Granting
 pub mod Listed

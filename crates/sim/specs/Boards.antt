@@ -1,8 +1,6 @@
 -- The board that a board in memory is.
-use Rattle.std.specs.Prelude.{ℕ, Bool, false, ◌&&◌, Some, None, Option, ◌==◌, nat_lt, slice_index, slice_index_or}
-use Rattle.power.specs.declared.types.Hits.{Hits}
-use Rattle.power.specs.Board.{Board, Part, Off, Rising, On, Wish, None', Asked, Granted, Lost, is_on}
-use Rattle.power.specs.Tables.{hit_at}
+use Rattle.std.specs.Prelude.{slice_index, slice_index_or}
+use Rattle.power.specs.Board.{Board, Part, Off, Rising, On, Wish, None', Asked, Granted}
 use Rattle.sim.specs.declared.state.PartState.{PartState}
 use Rattle.sim.specs.declared.state.PartState.TheVariants as state
 use Rattle.sim.specs.declared.state.Wanted.{Wanted}
@@ -19,12 +17,6 @@ abbrev pub wish_of : Wanted → Wish
 wish_of wanted.Nothing = None'
 wish_of (wanted.Asked x l g) = Asked x.n l.n g
 wish_of (wanted.Granted x l) = Granted x.n l.n
-wish_of wanted.Lost = Lost
-
--- whether part x is hit: none is, or these
-abbrev pub hit_of : Option Hits → ℕ → Bool
-hit_of None x = false
-hit_of (Some h) x = hit_at h x
 
 abbrev pub board_of : Sim → Board
 board_of s =
@@ -38,16 +30,8 @@ board_of s =
       wish = λ u. wish_of (slice_index_or s.wishes u wanted.Nothing);
       quiet = s.quiet;
       left = s.left;
-      fell = λ x. slice_index_or s.fell x false;
-      hit = λ x. hit_of s.hit x;
-      calm = s.calm;
-      owed = s.owed;
     }
 
 -- every part is tried anew
 abbrev pub anew : Board → Board
-anew b = record { parts = b.parts; needs = b.needs; draws = b.draws; gives = b.gives; part = b.part; tried = λ x. 0; wish = b.wish; quiet = b.quiet; left = b.left; fell = b.fell; hit = b.hit; calm = b.calm; owed = b.owed }
-
--- `MayFall`, as a test
-abbrev pub may_fall : Board → ℕ → Bool
-may_fall b x = nat_lt x b.parts && is_on (b.part x) && b.calm == 0
+anew b = record { parts = b.parts; needs = b.needs; draws = b.draws; gives = b.gives; part = b.part; tried = λ x. 0; wish = b.wish; quiet = b.quiet; left = b.left }

@@ -1,5 +1,5 @@
 -- What a written plan means: the needs and draws of each part, in the words of the board.
-use Rattle.std.specs.Prelude.{◌≡◌, ℕ, Bool, false, not, List, [], map, get_or, take, replicate, ◌==◌, slice_index_or, refl}
+use Rattle.std.specs.Prelude.{◌≡◌, ℕ, Bool, not, List, [], map, get_or, take, replicate, ◌==◌, slice_index_or, refl}
 use Rattle.power.specs.Board.{Board, Need, Off, None', least_at, on_of, least_of, most_of, every}
 use Rattle.sim.specs.declared.plan.PlanNeed.{PlanNeed}
 use Rattle.sim.specs.declared.plan.PlanPart.{PlanPart}
@@ -37,4 +37,4 @@ pub record Tells (n : Need) (k : ℕ) (ns : List Need) : Type 0 where
 
 -- the board of a plan, with everything off and nobody who wants anything
 abbrev pub board_for : Plan → Board
-board_for p = record { parts = p.parts; needs = needs_at p.part; draws = draws_at p.part; gives = p.gives; part = λ x. Off; tried = λ x. 0; wish = λ u. None'; quiet = 0; left = 1024; fell = λ x. false; hit = λ x. false; calm = 0; owed = 0 }
+board_for p = record { parts = p.parts; needs = needs_at p.part; draws = draws_at p.part; gives = p.gives; part = λ x. Off; tried = λ x. 0; wish = λ u. None'; quiet = 0; left = 1024 }

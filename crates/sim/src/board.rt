@@ -1,6 +1,6 @@
 // A board in memory is `Parts`.
-ghost use Rattle.std.specs.Prelude.{◌≡◌, ◌<◌, not, T, if◌then◌else◌, slice_set};
-ghost use Rattle.power.specs.Board.{Board, MayRaise, MayLower, MayLevel, Tries, raised, lowered, levelled, is_rising, fell_asked};
+ghost use Rattle.std.specs.Prelude.{◌≡◌, ◌<◌, T, if◌then◌else◌, slice_set};
+ghost use Rattle.power.specs.Board.{Board, MayRaise, MayLower, MayLevel, Tries, raised, lowered, levelled, is_rising};
 ghost use Rattle.sim.specs.Boards.{board_of};
 ghost use Rattle.sim.specs.Paces.{pace_of, next_pace_of, ready, waited, SamePaces};
 
@@ -55,7 +55,7 @@ impl Parts for Sim {
 
     // Whether it is good is a matter of its pace.
     fn good(&mut self, x: u32) -> bool
-        requires { (0 < (board_of self.old).left) × ((x < (board_of self.old).parts) × ((T (is_rising ((board_of self.old).part x))) × (T (not ((board_of self.old).hit x))))) }
+        requires { (0 < (board_of self.old).left) × ((x < (board_of self.old).parts) × (T (is_rising ((board_of self.old).part x)))) }
         ensures does { Tries (board_of self.old) x result (board_of self.new) }
         ensures paces { (result ≡ ready (pace_of self.old x)) × (self.new.pace ≡ (if result then self.old.pace else slice_set self.old.pace x (waited (pace_of self.old x)))) × (self.new.next_pace ≡ self.old.next_pace) }
     {
@@ -88,17 +88,5 @@ impl Parts for Sim {
     {
         self.states[x as usize] = PartState::On(Level { n: v });
         self.left -= 1;
-    }
-
-    // It says so once.
-    fn fell(&mut self, x: u32) -> bool
-        requires { x < (board_of self.old).parts }
-        ensures says { result ≡ (board_of self.old).fell x }
-        ensures does { board_of self.new ≡ fell_asked x (board_of self.old) }
-        ensures paces { SamePaces self.old self.new }
-    {
-        let fell = self.fell[x as usize];
-        self.fell[x as usize] = false;
-        fell
     }
 }

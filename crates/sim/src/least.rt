@@ -18,7 +18,6 @@ impl Wanted {
             Wanted::Nothing => {}
             Wanted::Asked(_, _, _) => {}
             Wanted::Granted(x, l) => levels.also(x, l.n),
-            Wanted::Lost => {}
         }
     }
 }

@@ -7,7 +7,7 @@ use super::plan::{Plan, PlanFault};
 use super::state::{Pace, PartState, Sim, Wanted};
 
 impl Sim {
-    // All is off, nobody wants anything, every part is good when it's first asked, and one may fall as soon as it is on.
+    // All is off, nobody wants anything, and every part is good when it's first asked.
     pub fn new(plan: Plan) -> Result<Sim, PlanFault>
         ensures { Started plan result }
     {
@@ -21,10 +21,6 @@ impl Sim {
             wishes: [Wanted::Nothing; 32],
             quiet: 0,
             left: 1024,
-            fell: [false; 64],
-            hit: None,
-            calm: 0,
-            owed: 0,
             pace: [Pace::At(1); 64],
             next_pace: [Pace::At(1); 64],
         })

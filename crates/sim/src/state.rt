@@ -4,7 +4,7 @@ ghost use Rattle.power.specs.Board.{good_plan};
 ghost use Rattle.sim.specs.Plans.{board_for};
 
 use super::plan::Plan;
-use power::types::{Hits, Level, PartId};
+use power::types::{Level, PartId};
 
 // A part is off, rising, or on at a level.
 #[derive(Clone, Copy)]
@@ -21,18 +21,15 @@ pub enum Pace {
     Never,
 }
 
-// What a user wants: nothing; a part at a level, asked so many ticks ago; that, granted; what was granted is gone, and the user isn't told yet.
+// What a user wants: nothing; a part at a level, asked so many ticks ago; that, granted.
 #[derive(Clone, Copy)]
 pub enum Wanted {
     Nothing,
     Asked(PartId, Level, u32),
     Granted(PartId, Level),
-    Lost,
 }
 
-// The plan makes sense. `fell` are parts that went off by themselves and weren't asked about since; `hit`, if one fell before this tick, is what
-// hangs on it. A part may fall again in `calm` ticks, and in `owed` ticks all who lost something are told.
-// `pace` is in effect since a part was raised last, `next_pace` from its next raising on.
+// The plan makes sense. `pace` is in effect since a part was raised last, `next_pace` from its next raising on.
 #[derive(Drop)]
 pub struct Sim {
     pub plan: Plan,
@@ -41,13 +38,8 @@ pub struct Sim {
     pub wishes: [Wanted; 32],
     pub quiet: u32,
     pub left: u32,
-    pub fell: [bool; 64],
-    pub hit: Option<Hits>,
-    pub calm: u32,
-    pub owed: u32,
     pub pace: [Pace; 64],
     pub next_pace: [Pace; 64],
     ghost sensible: { good_plan (board_for plan) ≡ true },
     ghost sized: { (length states ≡ 64) × (length tried ≡ 64) × (length wishes ≡ 32) × (length pace ≡ 64) × (length next_pace ≡ 64) },
-    ghost marks: { length fell ≡ 64 },
 }

@@ -19,7 +19,6 @@ impl Wanted {
                 Answer::No(_) => Wanted::Nothing,
             },
             Wanted::Granted(x, l) => Wanted::Granted(x, l),
-            Wanted::Lost => Wanted::Nothing,
         }
     }
 
@@ -32,7 +31,6 @@ impl Wanted {
             Wanted::Nothing => Wanted::Nothing,
             Wanted::Asked(x, l, age) => Wanted::Asked(x, l, age + 1),
             Wanted::Granted(x, l) => Wanted::Granted(x, l),
-            Wanted::Lost => Wanted::Lost,
         }
     }
 

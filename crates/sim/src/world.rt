@@ -85,8 +85,5 @@ impl World for Sim {
             64
         };
         self.left = 1024;
-        self.hit = None;
-        self.calm = self.calm.saturating_sub(1);
-        self.owed = self.owed.saturating_sub(1);
     }
 }

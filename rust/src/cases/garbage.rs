@@ -73,19 +73,6 @@ const STRANGE: &[&[u8]] = &[
     b"slow 0 0",
     b"slow 64 1",
     b"slow 0 x",
-    b"fall",
-    b"fall x",
-    b"fall -1",
-    b"fall 0 1",
-    b"fall 0x",
-    b"fall 64",
-    b"fall 4294967296",
-    b"fall 99999999999999999999",
-    b"Fall 0",
-    b"0 fall",
-    b"0 fall 1",
-    b"falls 0",
-    b"fell 0",
     b"least 0",
     b"Least",
     b"NEW",
@@ -142,8 +129,7 @@ pub fn script(pen: &mut Pen) {
             strange(pen);
         }
         if pen.rng.percent(10) {
-            let misplaced =
-                pen.rng.pick(&["tick 5", "least", "drawn", "0 want 0 1", "bad 0", "slow 0 1", "fall 0", "0 give", "tick 4294967295"]);
+            let misplaced = pen.rng.pick(&["tick 5", "least", "drawn", "0 want 0 1", "bad 0", "slow 0 1", "0 give", "tick 4294967295"]);
             pen.line(misplaced);
         }
         pen.line(&line);
@@ -153,7 +139,7 @@ pub fn script(pen: &mut Pen) {
         while pen.rng.percent(40) {
             strange(pen);
         }
-        match pen.rng.below(10) {
+        match pen.rng.below(9) {
             0 => pen.line("run"),
             1 => {
                 let misplaced = pen.rng.pick(&["part 0", "part 0 draws 1", "gives 0", "gives 5", "gives 4294967296"]);
@@ -170,10 +156,6 @@ pub fn script(pen: &mut Pen) {
             5 => {
                 let askings = pen.rng.pick(&["4294967295", "4294967296", "18446744073709551617", "2"]);
                 pen.line(&format!("slow 0 {askings}"));
-            }
-            6 => {
-                let part = pen.rng.pick(&["0", "00", "1", "63", "64", "4294967295", "4294967296"]);
-                pen.line(&format!("fall {part}"));
             }
             _ => {
                 let user = pen.rng.below(4);

@@ -6,7 +6,7 @@ use super::wander::{level, moods, wandering};
 
 const USERS: u32 = 32;
 
-pub fn all_slow(pen: &mut Pen, plan: &Plan, askings: u32) {
+fn all_slow(pen: &mut Pen, plan: &Plan, askings: u32) {
     (0..plan.len()).for_each(|x| pen.slow(x, askings));
 }
 

@@ -2,7 +2,6 @@
 //!
 //! After most ticks stands a line that prints something and changes nothing, so that what happens in one tick can be told from the next.
 
-mod falls;
 mod garbage;
 mod hostile;
 mod pen;
@@ -37,8 +36,7 @@ pub fn in_plain_sight(seed: u64) -> Vec<u8> {
 /// A plan and its script.
 fn one(pen: &mut Pen) {
     pen.messy = pen.rng.percent(10);
-    pen.falls = pen.rng.pick(&[0, 0, 0, 1, 5, 30]);
-    match pen.rng.below(120) {
+    match pen.rng.below(100) {
         0..40 => wander::wander(pen),
         40..46 => hostile::slow_chain(pen),
         46..53 => hostile::undoing(pen),
@@ -52,24 +50,7 @@ fn one(pen: &mut Pen) {
         88..91 => hostile::crowd(pen),
         91..93 => hostile::waiting(pen),
         93..97 => garbage::script(pen),
-        97..100 => garbage::plan(pen),
-        _ => {
-            // Only where it's worst.
-            pen.falls = 0;
-            giving_way(pen);
-        }
-    }
-}
-
-/// A part gives way at some moment.
-fn giving_way(pen: &mut Pen) {
-    match pen.rng.below(20) {
-        0..6 => falls::at_rest(pen),
-        6..10 => falls::while_rising(pen),
-        10..13 => falls::all_hit(pen),
-        13..16 => falls::again(pen),
-        16..19 => falls::bad(pen),
-        _ => falls::undone(pen),
+        _ => garbage::plan(pen),
     }
 }
 

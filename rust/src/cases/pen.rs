@@ -7,16 +7,12 @@ pub struct Pen {
     pub rng: Rng,
     /// Writes the same lines with other gaps, zeros and line ends.
     pub messy: bool,
-    /// In so many ticks out of a hundred some part gives way, if it can.
-    pub falls: u32,
-    /// Of the plan.
-    parts: u32,
     bytes: Vec<u8>,
 }
 
 impl Pen {
     pub fn new(rng: Rng) -> Self {
-        Pen { rng, messy: false, falls: 0, parts: 0, bytes: Vec::new() }
+        Pen { rng, messy: false, bytes: Vec::new() }
     }
 
     pub fn into_bytes(mut self) -> Vec<u8> {
@@ -47,7 +43,6 @@ impl Pen {
             self.line(&line);
         }
         self.line("run");
-        self.parts = plan.len();
     }
 
     pub fn want(&mut self, user: u32, part: u32, level: u32) {
@@ -66,33 +61,9 @@ impl Pen {
         self.line(&format!("bad {part}"));
     }
 
-    pub fn fall(&mut self, part: u32) {
-        self.line(&format!("fall {part}"));
-    }
-
-    /// A part that may be on, or isn't; others stand on the first more often.
-    pub fn some_fall(&mut self, parts: u32) {
-        let among = if self.rng.percent(50) { 3 } else { parts };
-        let x = self.rng.below(among.min(parts).max(1));
-        self.fall(x);
-    }
-
-    fn random_fall(&mut self) {
-        if self.rng.percent(self.falls) {
-            self.some_fall(self.parts);
-        }
-    }
-
     /// A tick, and a line that ends what it prints.
     pub fn tick(&mut self) {
-        self.random_fall();
         self.line("tick 1");
-        self.mark();
-    }
-
-    /// Ticks all at once.
-    pub fn pause(&mut self, ticks: u32) {
-        self.line(&format!("tick {ticks}"));
         self.mark();
     }
 
@@ -101,7 +72,6 @@ impl Pen {
         if self.rng.percent(90) {
             return (0..ticks).for_each(|_| self.tick());
         }
-        self.random_fall();
         self.line(&format!("tick {ticks}"));
         if self.rng.percent(80) {
             self.mark();

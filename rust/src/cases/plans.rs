@@ -168,16 +168,6 @@ pub fn chain(parts: u32) -> Plan {
     Plan::of((0..parts).map(needs))
 }
 
-/// All need the first part; each also needs one about halfway between.
-pub fn rows(parts: u32) -> Plan {
-    let needs = |x: u32| {
-        let mut ons = if x == 0 { Vec::new() } else { vec![0, x / 2] };
-        ons.dedup();
-        ons.into_iter().map(|on| Need { on, levels: vec![1], most: 15 }).collect()
-    };
-    Plan::of((0..parts).map(needs))
-}
-
 /// Two chains from one root. The second stands the root at `most` at most.
 pub fn fork(parts: u32, most: u32) -> Plan {
     let mut plan = chain(parts);

@@ -40,11 +40,6 @@ pub fn wandering(pen: &mut Pen, plan: &Plan) {
             0 => pen.ticks(66),
             1 => pen.ticks(34),
             2 => pen.ticks(5),
-            // Another part may give way after that.
-            3 if pen.falls > 0 => {
-                let ticks = pen.rng.from_to(4094, 4097);
-                pen.pause(ticks);
-            }
             _ => pen.tick(),
         }
     }

@@ -66,7 +66,7 @@ pub fn draw(svg: &mut Svg, story: &Story, (left, top): At) -> At {
         lanes.turn(x, State::Off);
     }
     lanes.svg.text("end", (start - 8, bottom + 14), "tick");
-    (end.max(left + 720), bottom + 20)
+    (end.max(left + 640), bottom + 20)
 }
 
 fn legend(svg: &mut Svg, (left, top): At) {
@@ -78,10 +78,8 @@ fn legend(svg: &mut Svg, (left, top): At) {
         ("give", "give"),
         ("done", "told done"),
         ("no", "told 5 or 6"),
-        ("lost", "told 7"),
         ("on", "level"),
         ("rising", "rising"),
-        ("fell", "gave way"),
     ] {
         svg.rect(class, (x, y - 6), (12, 10), "");
         svg.text("", (x + 17, y + 3), says);
@@ -95,7 +93,6 @@ fn width(event: &Event) -> u32 {
         Event::Call(Call::Want(..), _) => 36,
         Event::Call(..) => 20,
         Event::Step(_) => 8,
-        Event::Fell(_) => 16,
         Event::Told(..) => 22,
     }
 }
@@ -162,11 +159,9 @@ impl Lanes<'_> {
                     Answer::Done => ("done", "done"),
                     Answer::CannotBe => ("no", "no 5"),
                     Answer::NotGood => ("no", "no 6"),
-                    Answer::Lost => ("lost", "no 7"),
                 };
                 self.mark(TOLD, class, &user.to_string(), says, &format!("{user} {says}"), true);
             }
-            Event::Fell(x) => self.fell(*x),
             Event::Step(step) => {
                 let (x, state) = match *step {
                     Step::Raise(x) => (x, State::Rising),
@@ -193,7 +188,6 @@ impl Lanes<'_> {
                 let below = away.map_or(String::new(), |by| format!("away {by}"));
                 self.mark(GIVE, class("give"), &user.to_string(), &below, &format!("{user} give{ending}"), false);
             }
-            Call::Fall(_) => {}
             Call::Bad(x) => self.svg.text("small halo", (self.x, self.base(x) - LEVEL * TOP + 4), "bad"),
             Call::Slow(x, askings) => self.svg.text("small halo", (self.x, self.base(x) - LEVEL * TOP + 4), &format!("slow {askings}")),
         }
@@ -208,24 +202,6 @@ impl Lanes<'_> {
         if !below.is_empty() {
             self.svg.text("small mid", (middle, y + 15), below);
         }
-    }
-
-    /// The part goes off by itself here: a flash over its whole lane.
-    fn fell(&mut self, x: PartId) {
-        self.turn(x, State::Off);
-        let (left, base) = (self.x, self.base(x));
-        let (high, middle) = (base - LEVEL * TOP, base - LEVEL * TOP / 2);
-        let flash = format!(
-            "M{} {high}L{left} {}H{}L{} {base}L{} {}H{}Z",
-            left + 8,
-            middle + 3,
-            left + 5,
-            left + 2,
-            left + 10,
-            middle - 3,
-            left + 5
-        );
-        self.svg.shape("fell", &flash, &format!("part {} gave way", x.0));
     }
 
     /// The part's state changes here; what it was is drawn.

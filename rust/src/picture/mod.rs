@@ -71,18 +71,6 @@ mod tests {
     }
 
     #[test]
-    fn parts_that_give_way() {
-        // The first is refused, and so is the last; with what the legend shows.
-        let input = b"part 0\npart 1 needs 0 from 1 most 15\nrun\nfall 0\n0 want 1 1\n1 want 0 1\ntick 2\nfall 0\nfall 1\n2 want 1 1\n\
-            tick 4096\n0 give\nfall 1\ntick 1\n";
-        let svg = of_input(input).unwrap();
-        let count = |class: &str| svg.matches(&format!("class=\"{class}\"")).count();
-        assert!(is_well_formed(&svg));
-        assert_eq!((count("fell"), count("lost"), count("done"), count("away")), (1 + 2, 1 + 3, 1 + 3, 1 + 1));
-        assert_eq!((svg.matches("part 0 gave way").count(), svg.matches("part 1 gave way").count()), (1, 1));
-    }
-
-    #[test]
     fn no_plan_no_picture() {
         assert_eq!(of_input(b"part 0\nnew\nrun\n"), Err(NoPicture::NoRun));
         assert_eq!(of_input(b"part 1\nrun\n"), Err(NoPicture::NoPlan));

@@ -9,8 +9,8 @@ use crate::rules::line::{Line, ScriptLine, lines};
 use crate::rules::plan::{Draft, Level, PartId, Plan};
 use crate::rules::printed::{Answer, Happening, Step};
 
-/// With no call between them nothing happens any more after so many ticks: all wants are told in 512, and then 64 quiet ones pass.
-const BUSY: u32 = 576;
+/// With no call between them nothing happens any more after so many ticks: all wants are told in 256, and then 64 quiet ones pass.
+const BUSY: u32 = 320;
 
 #[derive(Clone, Copy, Debug)]
 pub enum Call {
@@ -18,15 +18,12 @@ pub enum Call {
     Give(u32),
     Bad(PartId),
     Slow(PartId, u32),
-    /// Nothing is drawn before it does.
-    Fall(PartId),
 }
 
 #[derive(Clone, Debug)]
 pub enum Event {
     /// What was called, and what it was turned away by.
     Call(Call, Option<String>),
-    Fell(PartId),
     Step(Step),
     Told(usize, Answer),
 }
@@ -90,7 +87,6 @@ impl Played {
             Played::Call(Call::Give(user)) => format!("{user} give\n"),
             Played::Call(Call::Bad(part)) => format!("bad {}\n", part.0),
             Played::Call(Call::Slow(part, askings)) => format!("slow {} {askings}\n", part.0),
-            Played::Call(Call::Fall(part)) => format!("fall {}\n", part.0),
             Played::Ticks(ticks) => format!("tick {ticks}\nleast\n"),
         }
     }
@@ -104,7 +100,6 @@ fn split(plan: &Plan, line: &ScriptLine) -> Vec<Played> {
         ScriptLine::Give { user } => Some(Call::Give(user)),
         ScriptLine::Bad(part) => known(part).map(Call::Bad),
         ScriptLine::Slow(part, askings) => known(part).filter(|_| askings > 0).map(|part| Call::Slow(part, askings)),
-        ScriptLine::Fall(part) => known(part).map(Call::Fall),
         ScriptLine::Tick(ticks) => {
             let one_by_one = (0..ticks.min(BUSY)).map(|_| Played::Ticks(1));
             let rest = ticks.checked_sub(BUSY).filter(|&rest| rest > 0).map(Played::Ticks);
@@ -117,8 +112,7 @@ fn split(plan: &Plan, line: &ScriptLine) -> Vec<Played> {
 
 fn moments(script: &[Played], output: &[u8]) -> Vec<Moment> {
     let output = String::from_utf8_lossy(output);
-    // Only a `fall` can be no line here.
-    let mut output = output.split_terminator('\n').filter(|line| !line.starts_with("line "));
+    let mut output = output.split_terminator('\n');
     let mut moments = Vec::new();
     for played in script {
         match *played {
@@ -126,7 +120,6 @@ fn moments(script: &[Played], output: &[u8]) -> Vec<Moment> {
                 let away = output.next().and_then(|line| line.strip_prefix("away ")).map(String::from);
                 moments.push(Moment::Called(Event::Call(call, away)));
             }
-            Played::Call(Call::Fall(_)) => {}
             Played::Call(call) => moments.push(Moment::Called(Event::Call(call, None))),
             Played::Ticks(ticks) => {
                 // Ends with the line that `least` prints.
@@ -145,7 +138,6 @@ fn moments(script: &[Played], output: &[u8]) -> Vec<Moment> {
 impl From<Happening> for Event {
     fn from(happening: Happening) -> Self {
         match happening {
-            Happening::Fell(part) => Event::Fell(part),
             Happening::Step(step) => Event::Step(step),
             Happening::Told(user, answer) => Event::Told(user.0, answer),
         }

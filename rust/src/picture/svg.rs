@@ -6,7 +6,6 @@ const STYLE: &str = "text{font:10px sans-serif;fill:#222}.small{font-size:8px}.h
 .end{text-anchor:end}.white{fill:#fff}.tick{fill:#f1f1f1}.odd{fill:#e6e6e6}.gap{fill:#fafafa;stroke:#bbb;stroke-dasharray:3 3}\
 .lane{stroke:#999}.on{fill:#7fb2e0;stroke:#2b6ca8}.rising{fill:url(#hatch);stroke:#d9a441}.want{fill:#fff;stroke:#333}\
 .away{fill:#ddd;stroke:#999;stroke-dasharray:2 2}.give{fill:#bbb;stroke:#555}.done{fill:#3a9a4b}.no{fill:#c43c35}\
-.lost{fill:#8a4fa3}.fell{fill:#8a4fa3}\
 .box{fill:#fff;stroke:#333}.need{fill:none;stroke:#777;marker-end:url(#tip)}.halo{paint-order:stroke;stroke:#fff;stroke-width:3px}";
 const DEFS: &str = "<defs><pattern id=\"hatch\" width=\"5\" height=\"5\" patternUnits=\"userSpaceOnUse\">\
 <path d=\"M0 5L5 0\" stroke=\"#d9a441\"/></pattern><marker id=\"tip\" viewBox=\"0 0 8 8\" refX=\"8\" refY=\"4\" markerWidth=\"7\" \
@@ -43,12 +42,6 @@ impl Svg {
 
     pub fn path(&mut self, class: &str, path: &str) {
         self.put(format_args!("<path class=\"{class}\" d=\"{path}\"/>"));
-    }
-
-    /// A path that is filled, with a text like that.
-    pub fn shape(&mut self, class: &str, path: &str, says: &str) {
-        let says = title(says);
-        self.put(format_args!("<path class=\"{class}\" d=\"{path}\">{says}</path>"));
     }
 
     pub fn text(&mut self, class: &str, (x, y): At, text: &str) {

@@ -1,4 +1,4 @@
-//! A board in memory, with parts that rise slowly or never, and that give way.
+//! A board in memory, with parts that rise slowly or never.
 
 use super::plan::MAX_PARTS;
 use super::print::Print;
@@ -50,16 +50,6 @@ impl Board {
     pub fn bad(&mut self, x: usize) {
         self.pace[x] = Pace::Never;
         self.next_pace[x] = Pace::Never;
-    }
-
-    pub fn is_on(&self, x: usize) -> bool {
-        matches!(self.states[x], State::On(_))
-    }
-
-    /// It goes off by itself. This is no asking.
-    pub fn fall(&mut self, x: usize, out: &mut Print) {
-        self.states[x] = State::Off;
-        out.step("fell ", x);
     }
 
     pub fn raise(&mut self, x: usize, out: &mut Print) {

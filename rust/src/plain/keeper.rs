@@ -1,5 +1,4 @@
-//! The keeper: serves those who wait in turn, goes down to the ceiling and up to the goal, and comes down when it was quiet. What hangs on a part
-//! that gave way is lowered in the same tick, and those who had it are told one by one.
+//! The keeper: serves those who wait in turn, goes down to the ceiling and up to the goal, and comes down when it was quiet.
 
 use super::board::{ASKINGS, Board, State};
 use super::least::{Levels, can_be, least};
@@ -11,8 +10,6 @@ const USERS: usize = 32;
 const LINGER: u32 = 32;
 /// How often a rising part is asked before 6 is told.
 const TRIES: u8 = 64;
-/// From a fall on no other part gives way for so many ticks.
-const CALM: u32 = 4096;
 
 /// Why a call was turned away.
 #[derive(Clone, Copy)]
@@ -74,15 +71,9 @@ pub struct Keeper {
     wants: [Want; USERS],
     waiting: Users,
     granted: Users,
-    /// What they had is gone, and they aren't told yet.
-    lost: Users,
     turn: usize,
     aim: Option<Aim>,
     quiet: u32,
-    /// Gives way before the next tick.
-    to_fall: Option<usize>,
-    /// Ticks until a part may give way again.
-    calm: u32,
 }
 
 impl Keeper {
@@ -94,12 +85,9 @@ impl Keeper {
             wants: [Want::default(); USERS],
             waiting: Users::default(),
             granted: Users::default(),
-            lost: Users::default(),
             turn: 0,
             aim: None,
             quiet: 0,
-            to_fall: None,
-            calm: 0,
         }
     }
 
@@ -115,22 +103,12 @@ impl Keeper {
         self.board.bad(x);
     }
 
-    /// The part is to give way before the next tick. False if it isn't on, or another is to, or one did a short time ago.
-    pub fn fall(&mut self, part: u32) -> bool {
-        let x = part as usize;
-        let may = x < self.plan.parts() && self.board.is_on(x) && self.to_fall.is_none() && self.calm == 0;
-        if may {
-            self.to_fall = Some(x);
-        }
-        may
-    }
-
     pub fn want(&mut self, user: u32, part: u32, level: u32) -> Result<(), Refusal> {
         let u = user as usize;
         if u >= USERS || part as usize >= self.plan.parts() || !(1..=u32::from(TOP)).contains(&level) {
             return Err(Refusal::NoSuch);
         }
-        if self.wants_something(u) {
+        if self.waiting.has(u) || self.granted.has(u) {
             return Err(Refusal::WantsAlready);
         }
         self.wants[u] = Want { part: part as u8, level: level as u8 };
@@ -144,12 +122,11 @@ impl Keeper {
         if u >= USERS {
             return Err(Refusal::NoSuch);
         }
-        if !self.wants_something(u) {
+        if !self.waiting.has(u) && !self.granted.has(u) {
             return Err(Refusal::WantsNothing);
         }
         self.waiting.remove(u);
         self.granted.remove(u);
-        self.lost.remove(u);
         if self.turn == u {
             self.move_on();
         }
@@ -167,83 +144,18 @@ impl Keeper {
         self.plan.drawn(&self.board.states.map(State::level))
     }
 
-    /// So many ticks. A part gives way in the first of them only, so all ticks that tell of it come before the others.
-    pub fn ticks(&mut self, ticks: u32, out: &mut Print) {
-        let mut left = ticks;
-        if left > 0
-            && let Some(x) = self.to_fall.take()
-        {
-            self.tick_with_fall(x, out);
-            left -= 1;
-        }
-        while left > 0 && !self.lost.is_empty() {
-            self.tell_of_loss(out);
-            self.end_tick();
-            left -= 1;
-        }
-        for _ in 0..left {
-            self.tick(out);
-        }
-        self.calm = self.calm.saturating_sub(ticks);
-    }
-
-    fn tick(&mut self, out: &mut Print) {
+    pub fn tick(&mut self, out: &mut Print) {
         self.board.left = ASKINGS;
         if !self.waiting.is_empty() {
-            self.serve_next(out);
+            self.turn = self.waiting.first_from(self.turn);
+            if let Some(answer) = self.serve(out) {
+                self.tell(&answer, out);
+            }
         } else if self.quiet == LINGER {
-            self.come_down(out);
+            let levels = self.least();
+            self.down(&levels, out);
         }
-        self.end_tick();
-    }
-
-    /// Apart from the ticks, like all that isn't done in a quiet one: these stay as fast as they can be.
-    #[inline(never)]
-    fn serve_next(&mut self, out: &mut Print) {
-        self.turn = self.waiting.first_from(self.turn);
-        if let Some(answer) = self.serve(out) {
-            self.tell(&answer, out);
-        }
-    }
-
-    #[inline(never)]
-    fn come_down(&mut self, out: &mut Print) {
-        let levels = self.least();
-        self.down(&levels, out);
-    }
-
-    /// What hangs on the part is lowered, from the last to the first. Who waits is served in the next tick.
-    #[inline(never)]
-    fn tick_with_fall(&mut self, fallen: usize, out: &mut Print) {
-        self.board.left = ASKINGS;
-        self.calm = CALM;
-        self.board.fall(fallen, out);
-        let hit = self.plan.hangs_on(fallen);
-        for u in 0..USERS {
-            if self.granted.has(u) && hit.has(self.wants[u].part.into()) {
-                self.granted.remove(u);
-                self.lost.add(u);
-            }
-        }
-        for x in (0..self.plan.parts()).rev() {
-            if hit.has(x) && self.board.states[x] != State::Off {
-                self.board.lower(x, out);
-            }
-        }
-        if !self.lost.is_empty() {
-            self.tell_of_loss(out);
-        } else if self.waiting.is_empty() && self.quiet == LINGER {
-            self.come_down(out);
-        }
-        self.end_tick();
-    }
-
-    fn end_tick(&mut self) {
         self.quiet = if self.waiting.is_empty() { (self.quiet + 1).min(LINGER + 1) } else { 0 };
-    }
-
-    fn wants_something(&self, u: usize) -> bool {
-        self.waiting.has(u) || self.granted.has(u) || self.lost.has(u)
     }
 
     fn what_is_granted(&self) -> Levels {
@@ -355,14 +267,6 @@ impl Keeper {
             }
         }
         self.move_on();
-        self.quiet = 0;
-    }
-
-    /// To the first who lost something; there is one. Whose turn it is stays.
-    fn tell_of_loss(&mut self, out: &mut Print) {
-        let u = self.lost.first_from(0);
-        self.lost.remove(u);
-        out.told(u, " no 7");
         self.quiet = 0;
     }
 

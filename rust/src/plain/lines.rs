@@ -28,7 +28,6 @@ pub enum Line {
     Tick(u32),
     Bad(u32),
     Slow(u32, u32),
-    Fall(u32),
     Least,
     Drawn,
 }
@@ -56,7 +55,6 @@ pub fn parse(line: &[u8]) -> Option<Line> {
         b"tick" => Line::Tick(words.number()?),
         b"bad" => Line::Bad(words.number()?),
         b"slow" => Line::Slow(words.number()?, words.number()?),
-        b"fall" => Line::Fall(words.number()?),
         word => call(number(word)?, &mut words)?,
     };
     words.next().is_none().then_some(parsed)

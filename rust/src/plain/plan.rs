@@ -28,16 +28,6 @@ impl Need {
     }
 }
 
-/// A set of parts.
-#[derive(Clone, Copy)]
-pub struct Parts(u64);
-
-impl Parts {
-    pub fn has(self, x: usize) -> bool {
-        self.0 >> x & 1 == 1
-    }
-}
-
 /// All needs one after the other; those of part x are from `first[x]` up to `first[x + 1]`.
 #[derive(Clone)]
 pub struct Plan {
@@ -55,17 +45,6 @@ impl Plan {
 
     pub fn needs(&self, part: usize) -> &[Need] {
         &self.needs[usize::from(self.first[part])..usize::from(self.first[part + 1])]
-    }
-
-    /// This part and all that need it, themselves or by others. Needs go to smaller numbers, so once from it to the last is enough.
-    pub fn hangs_on(&self, part: usize) -> Parts {
-        let mut parts = Parts(1 << part);
-        for x in part + 1..self.parts {
-            if self.needs(x).iter().any(|n| parts.has(n.on.into())) {
-                parts.0 |= 1 << x;
-            }
-        }
-        parts
     }
 
     /// What all parts draw at these levels.

@@ -70,10 +70,13 @@ fn script(keeper: &mut Keeper, line: &Line, out: &mut Print) -> bool {
     match *line {
         Line::Want { user, part, level } => answer(keeper.want(user, part, level), out),
         Line::Give { user } => answer(keeper.give(user), out),
-        Line::Tick(ticks) => keeper.ticks(ticks, out),
+        Line::Tick(ticks) => {
+            for _ in 0..ticks {
+                keeper.tick(out);
+            }
+        }
         Line::Bad(x) if (x as usize) < keeper.parts() => keeper.bad(x as usize),
         Line::Slow(x, askings) if (x as usize) < keeper.parts() && askings > 0 => keeper.slow(x as usize, askings),
-        Line::Fall(x) => return keeper.fall(x),
         Line::Least => out.levels(&keeper.least()[..keeper.parts()]),
         Line::Drawn => out.number(keeper.drawn()),
         _ => return false,

@@ -15,12 +15,6 @@ pub struct Account {
     /// Of those, where it was only that too much would be drawn.
     pub too_much: u64,
     pub sixes: u64,
-    pub sevens: u64,
-    pub falls: u64,
-    /// Of those, where nobody lost anything.
-    pub unheld: u64,
-    /// So many lost something by one fall.
-    pub most_lost: u64,
     pub oldest: u64,
 }
 
@@ -31,8 +25,6 @@ impl Account {
             Happening::Told(_, Answer::Done) => self.done += 1,
             Happening::Told(_, Answer::CannotBe) => self.fives += 1,
             Happening::Told(_, Answer::NotGood) => self.sixes += 1,
-            Happening::Told(_, Answer::Lost) => self.sevens += 1,
-            Happening::Fell(_) => self.falls += 1,
         }
     }
 }
@@ -48,10 +40,6 @@ impl std::ops::AddAssign for Account {
         self.fives += other.fives;
         self.too_much += other.too_much;
         self.sixes += other.sixes;
-        self.sevens += other.sevens;
-        self.falls += other.falls;
-        self.unheld += other.unheld;
-        self.most_lost = self.most_lost.max(other.most_lost);
         self.oldest = self.oldest.max(other.oldest);
     }
 }

@@ -77,11 +77,6 @@ impl Board {
         Ok(())
     }
 
-    /// It goes off by itself, whatever stands on it.
-    pub fn fall(&mut self, x: PartId) {
-        self.states[x.0] = State::Off;
-    }
-
     /// Whether it is on at that level or more.
     pub fn is_on_at(&self, x: PartId, level: Level) -> bool {
         matches!(self.state(x), State::On(now) if now >= level)

@@ -42,18 +42,8 @@ pub enum Broken {
     NotTried,
     /// Something happened without a tick.
     NoTick,
-    /// A want wasn't told within 512 ticks.
+    /// A want wasn't told within 256 ticks.
     Late,
-    /// A part gave way that wasn't said to, or not when it was.
-    NoFall,
-    /// Something else than lowering was done to a part that gave way, or hangs on one that did, in the same tick.
-    Hit,
-    /// Such a part isn't off when the tick is over.
-    HitLeft,
-    /// 7 is told, and nothing that the user had is gone.
-    NothingLost,
-    /// So many ticks after a part gave way fewer are told 7, or have given back.
-    LossNotTold,
     /// More askings in a tick than there may be.
     TooManyAskings,
     /// It was quiet, and levels aren't the least.

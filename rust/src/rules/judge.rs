@@ -94,10 +94,8 @@ impl<'a> Judge<'a> {
             self.ticks = Some(self.ticks.unwrap_or(0) + u64::from(*ticks));
             return Ok(());
         }
-        match line {
-            ScriptLine::Bad(_) | ScriptLine::Slow(..) => {}
-            ScriptLine::Fall(_) => self.end_ticks_before_fall()?,
-            _ => self.end_ticks()?,
+        if !matches!(line, ScriptLine::Bad(_) | ScriptLine::Slow(..)) {
+            self.end_ticks()?;
         }
         let Mode::Script(script) = &mut self.mode else { return Ok(()) };
         match script.line(line, self.ticks.is_some()) {
@@ -115,23 +113,10 @@ impl<'a> Judge<'a> {
 
     /// What happened in the ticks that passed.
     fn end_ticks(&mut self) -> Result<(), Broken> {
-        self.end_ticks_with(|_| true)
-    }
-
-    /// The same where a part may be about to give way: if it does, that is printed at the next tick, before anything else.
-    fn end_ticks_before_fall(&mut self) -> Result<(), Broken> {
-        self.end_ticks_with(|happening| !matches!(happening, Happening::Fell(_)))
-    }
-
-    fn end_ticks_with(&mut self, of_these: impl Fn(&Happening) -> bool) -> Result<(), Broken> {
         match (&mut self.mode, self.ticks.take()) {
             (Mode::Script(script), Some(ticks)) => {
-                let fallen = script.falls(ticks);
-                if let Some(x) = fallen {
-                    self.output.expect(&Happening::Fell(x).to_string())?;
-                }
-                let happenings = std::iter::from_fn(|| self.output.next_happening(&of_these));
-                script.ticks(ticks, fallen, happenings, &mut self.account)
+                let happenings = std::iter::from_fn(|| self.output.next_happening());
+                script.ticks(ticks, happenings, &mut self.account)
             }
             _ => Ok(()),
         }
@@ -170,8 +155,8 @@ impl<'a> Output<'a> {
         self.at.checked_sub(1).map_or("", |last| self.lines[last])
     }
 
-    fn next_happening(&mut self, which: impl Fn(&Happening) -> bool) -> Option<Happening> {
-        let happening = Happening::read(self.lines.get(self.at)?).filter(which)?;
+    fn next_happening(&mut self) -> Option<Happening> {
+        let happening = Happening::read(self.lines.get(self.at)?)?;
         self.at += 1;
         Some(happening)
     }

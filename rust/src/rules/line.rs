@@ -17,7 +17,6 @@ pub enum ScriptLine {
     Tick(u32),
     Bad(u32),
     Slow(u32, u32),
-    Fall(u32),
     Least,
     Drawn,
 }
@@ -69,7 +68,6 @@ fn script(words: &[&str]) -> Option<ScriptLine> {
         ["tick", ticks] => ScriptLine::Tick(number(ticks)?),
         ["bad", part] => ScriptLine::Bad(number(part)?),
         ["slow", part, askings] => ScriptLine::Slow(number(part)?, number(askings)?),
-        ["fall", part] => ScriptLine::Fall(number(part)?),
         ["least"] => ScriptLine::Least,
         ["drawn"] => ScriptLine::Drawn,
         _ => return None,

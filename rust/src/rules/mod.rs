@@ -6,7 +6,6 @@
 mod account;
 mod askings;
 pub(crate) mod board;
-mod falls;
 mod fault;
 mod judge;
 pub(crate) mod line;

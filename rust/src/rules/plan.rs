@@ -80,21 +80,6 @@ impl Plan {
         &self.parts[x.0].needs
     }
 
-    /// Whether x is this other part or needs it, itself or by others: goes wherever needs lead from x.
-    pub fn hangs_on(&self, x: PartId, other: PartId) -> bool {
-        let mut seen = vec![false; self.len()];
-        let mut ahead = vec![x];
-        while let Some(y) = ahead.pop() {
-            if y == other {
-                return true;
-            }
-            if !std::mem::replace(&mut seen[y.0], true) {
-                ahead.extend(self.needs(y).iter().map(|n| n.on));
-            }
-        }
-        false
-    }
-
     /// The lowest levels at which each want is served and each part that isn't off has what it needs at the least: from the wants on,
     /// whatever is too low is put up until nothing is.
     pub fn least(&self, wants: impl IntoIterator<Item = (PartId, Level)>) -> Vec<Level> {

@@ -17,13 +17,10 @@ pub enum Answer {
     Done,
     CannotBe,
     NotGood,
-    Lost,
 }
 
 #[derive(Clone, Copy, Debug)]
 pub enum Happening {
-    /// A part gave way: that comes before anything else in its tick.
-    Fell(PartId),
     Step(Step),
     Told(UserId, Answer),
 }
@@ -35,7 +32,6 @@ impl Happening {
         let part = |word: &str| word.parse().ok().map(PartId);
         let user = |word: &str| word.parse().ok().map(UserId);
         let happening = match words[..] {
-            ["fell", x] => Happening::Fell(part(x)?),
             ["raise", x] => Happening::Step(Step::Raise(part(x)?)),
             ["good", x] => Happening::Step(Step::Good(part(x)?)),
             ["level", x, level] => Happening::Step(Step::Level(part(x)?, level.parse().ok()?)),
@@ -43,7 +39,6 @@ impl Happening {
             [u, "done"] => Happening::Told(user(u)?, Answer::Done),
             [u, "no", "5"] => Happening::Told(user(u)?, Answer::CannotBe),
             [u, "no", "6"] => Happening::Told(user(u)?, Answer::NotGood),
-            [u, "no", "7"] => Happening::Told(user(u)?, Answer::Lost),
             _ => return None,
         };
         // Numbers are written in one way only.
@@ -54,7 +49,6 @@ impl Happening {
 impl fmt::Display for Happening {
     fn fmt(&self, f: &mut fmt::Formatter) -> fmt::Result {
         match self {
-            Happening::Fell(x) => write!(f, "fell {}", x.0),
             Happening::Step(Step::Raise(x)) => write!(f, "raise {}", x.0),
             Happening::Step(Step::Good(x)) => write!(f, "good {}", x.0),
             Happening::Step(Step::Level(x, level)) => write!(f, "level {} {level}", x.0),
@@ -62,7 +56,6 @@ impl fmt::Display for Happening {
             Happening::Told(u, Answer::Done) => write!(f, "{} done", u.0),
             Happening::Told(u, Answer::CannotBe) => write!(f, "{} no 5", u.0),
             Happening::Told(u, Answer::NotGood) => write!(f, "{} no 6", u.0),
-            Happening::Told(u, Answer::Lost) => write!(f, "{} no 7", u.0),
         }
     }
 }

@@ -3,7 +3,6 @@
 use super::account::Account;
 use super::askings::Askings;
 use super::board::{Board, State};
-use super::falls::{Aftermath, Falls};
 use super::fault::Broken;
 use super::line::ScriptLine;
 use super::pace::Paces;
@@ -20,7 +19,6 @@ pub struct Script {
     users: Users,
     paces: Paces,
     askings: Askings,
-    falls: Falls,
     /// Ticks with no want called, given back or told, and none waiting, at the least.
     quiet: u64,
 }
@@ -38,21 +36,11 @@ struct Seen {
     steps: u64,
     /// When somebody was told last: for how many ticks that want could still have waited.
     last_told: Option<u64>,
-    /// A part gave way before the first of them.
-    aftermath: Option<Aftermath>,
 }
 
 impl Script {
     pub fn new(plan: Plan) -> Self {
-        Script {
-            plan,
-            board: Board::new(),
-            users: Users::default(),
-            paces: Paces::new(),
-            askings: Askings::default(),
-            falls: Falls::default(),
-            quiet: 0,
-        }
+        Script { plan, board: Board::new(), users: Users::default(), paces: Paces::new(), askings: Askings::default(), quiet: 0 }
     }
 
     /// A line that isn't `tick`. `within`: it comes after ticks whose output can't be told from that of those after it.
@@ -74,48 +62,28 @@ impl Script {
                 self.paces.slow(PartId(x as usize), askings, within);
                 Reply::Nothing
             }
-            ScriptLine::Fall(x) if self.is_part(x) && self.board.is_on_at(PartId(x as usize), 1) && self.falls.may_come() => {
-                self.falls.say(PartId(x as usize));
-                Reply::Nothing
-            }
             ScriptLine::Least => {
                 let levels: Vec<String> = self.least().iter().map(Level::to_string).collect();
                 Reply::Line(levels.join(" "))
             }
             ScriptLine::Drawn => Reply::Line(self.plan.drawn(&self.board.levels(&self.plan)).to_string()),
             ScriptLine::Tick(_) => Reply::Nothing,
-            ScriptLine::Bad(_) | ScriptLine::Slow(..) | ScriptLine::Fall(_) => Reply::NoLine,
+            ScriptLine::Bad(_) | ScriptLine::Slow(..) => Reply::NoLine,
         }
     }
 
-    /// So many ticks begin: which part gives way before the first of them.
-    pub fn falls(&mut self, ticks: u64) -> Option<PartId> {
-        self.falls.come(ticks)
-    }
-
-    /// Ticks pass, and this happens in them, after this part gave way.
-    pub fn ticks(
-        &mut self,
-        ticks: u64,
-        fallen: Option<PartId>,
-        happenings: impl Iterator<Item = Happening>,
-        account: &mut Account,
-    ) -> Result<(), Broken> {
-        let mut seen = Seen { aftermath: fallen.map(|x| self.fall(x, ticks, account)), ..Seen::default() };
+    /// Ticks pass, and this happens in them.
+    pub fn ticks(&mut self, ticks: u64, happenings: impl Iterator<Item = Happening>, account: &mut Account) -> Result<(), Broken> {
+        let mut seen = Seen::default();
         for happening in happenings {
             if ticks == 0 {
                 return Err(Broken::NoTick);
             }
             match happening {
-                Happening::Fell(_) => return Err(Broken::NoFall),
                 Happening::Step(step) => self.step(step, &mut seen)?,
-                Happening::Told(user, Answer::Lost) => self.told_loss(user, &mut seen)?,
                 Happening::Told(user, answer) => self.told(user, answer, &mut seen, account)?,
             }
             account.count(happening);
-        }
-        if let Some(aftermath) = &seen.aftermath {
-            aftermath.end(&self.board)?;
         }
         self.askings.span(ticks, seen.steps);
         self.paces.span_ends();
@@ -145,26 +113,9 @@ impl Script {
         Reply::Line(format!("away {why}"))
     }
 
-    /// A part gives way; who had it, or what hangs on it, has it no more.
-    fn fall(&mut self, fallen: PartId, ticks: u64, account: &mut Account) -> Aftermath {
-        self.board.fall(fallen);
-        let lost = self.users.lose(|x| self.plan.hangs_on(x, fallen));
-        if lost > 0 {
-            // As one of them is told in this very tick.
-            self.quiet = 0;
-        }
-        account.count(Happening::Fell(fallen));
-        account.unheld += u64::from(lost == 0);
-        account.most_lost = account.most_lost.max(lost);
-        Aftermath::new(&self.plan, fallen, ticks, lost)
-    }
-
     fn step(&mut self, step: Step, seen: &mut Seen) -> Result<(), Broken> {
         if self.quiet >= QUIET {
             return Err(Broken::NotQuiet);
-        }
-        if let Some(aftermath) = &mut seen.aftermath {
-            aftermath.step(&self.board, step)?;
         }
         self.board.step(&self.plan, self.users.granted(), step)?;
         let span = self.askings.next_span();
@@ -191,18 +142,10 @@ impl Script {
                 self.paces.six(rising, self.askings.next_span(), &mut self.askings)?;
             }
             Answer::CannotBe => account.too_much += u64::from(self.plan.fits(&least)),
-            Answer::Done | Answer::Lost => {}
+            Answer::Done => {}
         }
         self.users.told(user, answer == Answer::Done);
         seen.last_told = Some(asked.left);
-        Ok(())
-    }
-
-    fn told_loss(&mut self, user: UserId, seen: &mut Seen) -> Result<(), Broken> {
-        seen.last_told = Some(self.users.told_loss(user)?);
-        if let Some(aftermath) = &mut seen.aftermath {
-            aftermath.told_loss();
-        }
         Ok(())
     }
 

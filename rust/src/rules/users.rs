@@ -5,7 +5,7 @@ use super::plan::{Level, PartId, Plan, is_level};
 
 const USERS: usize = 32;
 /// A want is told within so many ticks.
-const IN_TIME: u64 = 512;
+const IN_TIME: u64 = 256;
 
 #[derive(Clone, Copy, PartialEq, Eq, Debug)]
 pub struct UserId(pub usize);
@@ -17,15 +17,11 @@ enum Wish {
     /// Asked, and so many ticks passed since.
     Asked(PartId, Level, u64),
     Granted(PartId, Level),
-    /// It was granted and is gone, and the user isn't told yet.
-    Lost,
 }
 
 #[derive(Default)]
 pub struct Users {
     wishes: [Wish; USERS],
-    /// In so many ticks all who lost something are told, one or more in each.
-    owed: u64,
 }
 
 /// A want that is being told.
@@ -89,40 +85,8 @@ impl Users {
         }
     }
 
-    /// What was granted of these parts is gone: how many lost something.
-    pub fn lose(&mut self, gone: impl Fn(PartId) -> bool) -> u64 {
-        for wish in &mut self.wishes {
-            if matches!(wish, Wish::Granted(part, _) if gone(*part)) {
-                *wish = Wish::Lost;
-            }
-        }
-        self.owed = self.lost();
-        self.owed
-    }
-
-    /// So many aren't told yet that what they had is gone.
-    fn lost(&self) -> u64 {
-        self.wishes.iter().filter(|wish| matches!(wish, Wish::Lost)).count() as u64
-    }
-
-    /// One that lost something is told. Returns in how many ticks that had to be.
-    pub fn told_loss(&mut self, user: UserId) -> Result<u64, Broken> {
-        let others = self.lost().saturating_sub(1);
-        match self.wishes.get_mut(user.0) {
-            Some(wish @ Wish::Lost) => {
-                *wish = Wish::Nothing;
-                Ok(self.owed - others)
-            }
-            _ => Err(Broken::NothingLost),
-        }
-    }
-
     /// Ticks pass. Returns the age of the oldest want that still waits.
     pub fn tick(&mut self, ticks: u64) -> Result<u64, Broken> {
-        self.owed = self.owed.saturating_sub(ticks);
-        if self.lost() > self.owed {
-            return Err(Broken::LossNotTold);
-        }
         let mut oldest = 0;
         for wish in &mut self.wishes {
             if let Wish::Asked(_, _, age) = wish {

@@ -1,6 +1,6 @@
-use Rattle.std.proofs.Common.{◌≡◌, ℕ, ◌<◌, min, get_or}
+use Rattle.std.proofs.Common.{◌≡◌, ℕ, ◌<◌, get_or}
 use Rattle.power.specs.Tables.{at}
 use Rattle.export.proofs.plan.levels_of.Given as goal
 
 abbrev pub invariant-loop-n : goal.invariant-loop-n
-invariant-loop-n l = (x : ℕ) → x < l.n → at l.levels x ≡ min (get_or l.wants x 0) 255
+invariant-loop-n l = (x : ℕ) → x < l.n → at l.levels x ≡ get_or l.wants x 0

@@ -1,4 +1,4 @@
-use Rattle.std.proofs.Common.{Bool, not, T, sym, ap, subst}
+use Rattle.std.proofs.Common.{ap}
 use Rattle.power.specs.declared.types.UserId.{UserId}
 use Rattle.power.proofs.KeptTicks.{asked_said, head_aims, worked_spent, worked_told}
 use Rattle.power.proofs.Keeper.attend.Goals as goal
@@ -15,7 +15,6 @@ pursue-requires g c =
     record {
       mirrors = m.mirrors;
       sound = m.sound;
-      unhit = λ y hy. subst (λ (h : Bool). T (not h)) (sym (m.unhit y)) tt;
       part = (m.sound.asks u.n x.n l.n a.0 u.below a.1).0;
       all = c.requires.all;
       aims = head_aims k k b u.n x.n l.n a.0 m u.below a.1 c.requires.head;
@@ -32,7 +31,7 @@ returns-in-None g c =
     let a = asked_said k b u.n x l m.mirrors c.in-Asked.ensures in
     let r = c.in-None.ensures in
     let t = c.tick.ensures in
-    worked_spent k _ b u.n x.n l.n a.0 m u.below a.1 c.requires.head c.requires.lost _ r.only r.sound
+    worked_spent k _ b u.n x.n l.n a.0 m u.below a.1 c.requires.head _ r.only r.sound
     _ t.turn r.pursued (ap (λ (v : UserId). v.n) r.user) (t.mirrors _ r.mirrors)
 
 pub returns-in-Some : goal.returns-in-Some
@@ -46,5 +45,5 @@ returns-in-Some g c =
     let a = asked_said k b u.n x l m.mirrors c.in-Asked.ensures in
     let r = c.in-Some.ensures in
     let t = c.tick-in-Some.ensures in
-    worked_told k _ b u.n x.n l.n a.0 m u.below a.1 c.requires.head c.requires.lost _ r.only r.sound
+    worked_told k _ b u.n x.n l.n a.0 m u.below a.1 c.requires.head _ r.only r.sound
     c.in-Some.a c.pursue.new.self.turn _ t.turn r.pursued (ap (λ (v : UserId). v.n) r.user) c.tell.ensures.turn (t.mirrors _ (c.tell.ensures.mirrors _ r.mirrors))

@@ -15,13 +15,13 @@ returns-in_err-want c =
 pub returns-in_err-value : goal.returns-in_err-value
 returns-in_err-value c =
     record {
-      kept = λ b m t. dropped _ _ _ _ c.args.u _ _ _ c.of-held.ensures.kept c.of-held.ensures.user c.of-held.ensures.whole c.drop-held.ensures (search rules) (c.want.ensures b m).1;
+      kept = λ b m t. dropped _ _ _ _ c.args.u _ _ c.of-held.ensures.kept c.of-held.ensures.user c.drop-held.ensures (search rules) (c.want.ensures b m).1;
       nothing = nothing_left c.args.u c.args.x c.args.l;
     }
 
 pub returns : goal.returns
 returns c =
     record {
-      kept = λ b m t. dropped _ _ _ _ c.args.u _ _ _ c.of-held.ensures.kept c.of-held.ensures.user c.of-held.ensures.whole c.drop-held-2.ensures (search rules) (c.want.ensures b m).1;
+      kept = λ b m t. dropped _ _ _ _ c.args.u _ _ c.of-held.ensures.kept c.of-held.ensures.user c.drop-held-2.ensures (search rules) (c.want.ensures b m).1;
       nothing = nothing_left c.args.u c.args.x c.args.l;
     }

@@ -8,4 +8,4 @@ loop-k-init g c = pushed_none ((g.P.Parts.board c.args.b.now).needs c.args.x.n) 
 pub loop-k-preserved : goal.loop-k-preserved
 loop-k-preserved g c =
     pushed_more ((g.P.Parts.board c.args.b.now).needs c.args.x.n) c.args.l c.loop-k.k (at c.args.ls.now) (at c.loop-k.ls) (at c.push_one.new.ls) c.loop-k.invariant
-    c.in_ok-push_one.ensures
+    c.push_one.ensures

@@ -1,11 +1,8 @@
-use Rattle.std.proofs.Common.{[], ◌∷◌, arith}
+use Rattle.std.proofs.Common.{[], ◌∷◌}
+use Rattle.script.specs.Rows.{row_text}
 use Rattle.script.specs.Events.{printed}
-use Rattle.script.proofs.Printed.{wrote_more}
+use Rattle.script.proofs.Printed.{one_more}
 use Rattle.script.proofs.write.event_line.Goals as goal
 
-pub returns : goal.returns
-returns c =
-    record {
-      wrote = wrote_more c.args.memory.now c.args.at (printed c.args.event) c.put_event-end.new.memory c.put_event-end.result (10 ∷ []) c.put_byte.new.memory c.put_byte.result c.put_event-end.ensures.wrote c.put_byte.ensures;
-      short = omega (arith, c.put_event-end.ensures.short, c.put_byte.ensures.ends);
-    }
+pub returns-then-write_event : goal.returns-then-write_event
+returns-then-write_event c = one_more c.push.result (row_text c.args.row.now) (row_text c.write_event.new.row) (row_text c.push.new.self) (printed c.args.event) (10 ∷ []) c.if-write_event.ensures c.push.ensures.wrote

@@ -1,4 +1,5 @@
-use Rattle.std.proofs.Common.{ℕ, ltb, List, [], ◌∷◌, ◌++◌, get_or, decimal, ap, ◌∙◌, arith}
+use Rattle.std.proofs.Common.{◌≡◌, ℕ, ltb, List, [], ◌∷◌, ◌++◌, get_or, decimal, MatchBool, ap, ◌∙◌, subst, arith}
+use Rattle.script.specs.Rows.{row_text}
 use Rattle.std.proofs.lemmas.List.{take_all}
 use Rattle.script.specs.Events.{spaced}
 use Rattle.script.proofs.Printed.{gap, spaced_more}
@@ -8,9 +9,10 @@ pub loop-i-preserved : goal.loop-i-preserved
 loop-i-preserved c =
     let levels = c.args.levels.now in
     let i = c.loop-i.i in
-    (c.put_level-len.ensures.wrote.text ∙ ap (λ (l : List ℕ). l ++ (gap (ltb 0 i) ++ decimal (get_or levels i 0))) c.loop-i.invariant.0 ∙ spaced_more levels i (omega arith), omega (arith, c.put_level-len.ensures.short))
+    c.if-not-write_level.ensures ∙ ap (λ (l : List ℕ). l ++ (gap (ltb 0 i) ++ decimal (get_or levels i 0))) c.loop-i.invariant ∙ spaced_more levels i (omega arith)
 
 pub returns : goal.returns
 returns c =
     let levels = c.args.levels.now in
-    (c.put_byte.ensures.text ∙ ap (λ (l : List ℕ). l ++ 10 ∷ []) (c.loop-i.invariant.0 ∙ ap spaced (take_all c.loop-i.i levels (omega arith))), omega (arith, c.put_byte.ensures.ends))
+    let all : row_text c.loop-i.row ≡ spaced levels = c.loop-i.invariant ∙ ap spaced (take_all c.loop-i.i levels (omega arith)) in
+    subst (λ (l : List ℕ). MatchBool c.push.result (row_text c.push.new.self ≡ l ++ 10 ∷ []) (Unit {0})) all c.push.ensures.wrote

@@ -24,7 +24,7 @@ returns-in-Ok g c =
     record {
       only = r.came.only;
       sound = r.sound;
-      low = settle_lean b f c.requires.sound e c.in-Ok.to c.in-Ok.ensures _ _ _ _ c.requires.few c.requires.room r.came r.ends r.sound;
+      low = settle_lean b f c.requires.sound e c.in-Ok.to c.in-Ok.ensures _ _ _ _ c.requires.few c.requires.all r.came r.ends r.sound;
       knows = r.knows;
     }
 

@@ -7,7 +7,7 @@ use Rattle.power.proofs.state.Driver.try_part.Goals as goal
 
 pub good-good-requires : goal.good-good-requires
 good-good-requires g c =
-    (omega (arith, c.requires.knows.left), (c.requires.there, (rising_is _ (part_shown c.args.self.now.mirror _ c.args.x.n _ c.requires.knows.parts c.requires.rises), c.requires.unhit)))
+    (omega (arith, c.requires.knows.left), (c.requires.there, rising_is _ (part_shown c.args.self.now.mirror _ c.args.x.n _ c.requires.knows.parts c.requires.rises)))
 
 pub returns-then-good : goal.returns-then-good
 returns-then-good g c =

@@ -13,7 +13,7 @@ pub listed-2 : goal.listed-2
 listed-2 c = omega (arith, (listed_need c.args.self.now.part c.args.x c.args.k c.index-self-x.result c.requires).1, (get_or c.args.self.now.part c.args.x c.index-self-x.result).long)
 
 pub bounds-part-i : goal.bounds-part-i
-bounds-part-i c = (listed_need c.args.self.now.part c.args.x c.args.k c.index-self-x.result c.requires).1
+bounds-part-i c = omega (arith, (listed_need c.args.self.now.part c.args.x c.args.k c.index-self-x.result c.requires).1)
 
 pub returns : goal.returns
 returns c = tells_need c.args.self.now.part c.args.x c.args.k c.index-self-x.result c.index-part-i.result c.requires

@@ -6,9 +6,8 @@ use Rattle.sim.proofs.plan.Plan.needs.Goals as goal
 pub returns-then-x-lt64 : goal.returns-then-x-lt64
 returns-then-x-lt64 c =
     let ps = c.args.self.now.part in
-    let d = c.index-self-x.result in
     let h : c.args.x < length ps = omega arith in
-    sym (ap length (needs_at_lem ps c.args.x d h) ∙ length_needs (get_or ps c.args.x d))
+    sym (ap length (needs_at_lem ps c.args.x _ h) ∙ length_needs (get_or ps c.args.x _))
 
 pub returns-else-x-lt64 : goal.returns-else-x-lt64
 returns-else-x-lt64 c =

@@ -9,6 +9,6 @@ pub returns : goal.returns
 returns c =
     let b = board_of c.args.self.now in
     record {
-      does = ap (λ (t : ℕ → ℕ). record { parts = b.parts; needs = b.needs; draws = b.draws; gives = b.gives; part = b.part; tried = t; wish = b.wish; quiet = b.quiet; left = b.left; fell = b.fell; hit = b.hit; calm = b.calm; owed = b.owed }) (fun_ext (all_same 64 0));
+      does = ap (λ (t : ℕ → ℕ). record { parts = b.parts; needs = b.needs; draws = b.draws; gives = b.gives; part = b.part; tried = t; wish = b.wish; quiet = b.quiet; left = b.left }) (fun_ext (all_same 64 0));
       paces = (refl, refl);
     }

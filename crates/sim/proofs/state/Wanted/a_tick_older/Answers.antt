@@ -17,7 +17,3 @@ returns-in-Asked c = search rules
 pub returns-in-Granted : goal.returns-in-Granted
 unfolding older young
 returns-in-Granted c = search rules
-
-pub returns-in-Lost : goal.returns-in-Lost
-unfolding older young
-returns-in-Lost c = search rules

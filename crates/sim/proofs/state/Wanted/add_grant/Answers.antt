@@ -4,7 +4,7 @@ use Rattle.power.specs.Board.{want_of, larger}
 use Rattle.power.specs.Tables.{at}
 use Rattle.sim.specs.Boards.{wish_of}
 use Rattle.sim.specs.declared.state.Wanted.{Wanted}
-use Rattle.sim.proofs.Granting.{nothing_more, asked_more, lost_more, granted_more}
+use Rattle.sim.proofs.Granting.{nothing_more, asked_more, granted_more}
 use Rattle.sim.proofs.state.Wanted.add_grant.Goals as goal
 
 pub returns-in-Nothing : goal.returns-in-Nothing
@@ -17,11 +17,6 @@ returns-in-Asked c x =
     let m = at c.args.levels.now x in
     let w = c.in-Asked in
     asked_more x m w.field-0.n w.field-1.n w.field-2 ∙ ap (λ (w : Wanted). larger m (want_of x (wish_of w))) (sym w.is)
-
-pub returns-in-Lost : goal.returns-in-Lost
-returns-in-Lost c x =
-    let m = at c.args.levels.now x in
-    lost_more x m ∙ ap (λ (w : Wanted). larger m (want_of x (wish_of w))) (sym c.in-Lost.is)
 
 pub returns-in-Granted : goal.returns-in-Granted
 returns-in-Granted c x =

@@ -17,7 +17,3 @@ returns-in-No c = search rules
 pub returns-in-Granted : goal.returns-in-Granted
 unfolding told_of
 returns-in-Granted c = search rules
-
-pub returns-in-Lost : goal.returns-in-Lost
-unfolding told_of
-returns-in-Lost c = search rules
