@@ -18,8 +18,5 @@ pub extern "C" fn tizgulk_play(input: &[u8], out: &mut [u8]) -> u64 {
     let mut lines = SliceLines { rest: input };
     let mut sheet = Sheet::new(out);
     play(&mut lines, &mut sheet);
-    if sheet.is_full() {
-        return NO_ROOM;
-    }
-    sheet.len() as u64
+    sheet.finish().map_or(NO_ROOM, |len| len as u64)
 }

@@ -1,73 +1,89 @@
 // A plan, and the least for what is wanted of it.
-ghost use Rattle.std.specs.Prelude.{◌≡◌, ℕ, ◌<◌, ◌≤◌, length, slice_index};
+ghost use Rattle.std.specs.Prelude.{◌≡◌, ℕ, ◌<◌, length, slice_index};
 ghost use Rattle.power.specs.Tables.{at};
+ghost use Rattle.export.specs.Refused.{code_of};
+ghost use Rattle.export.specs.declared.plan.Refused.TheVariants as refused;
 
 use play::plans::read_board;
 use power::least::least;
-use power::types::{Levels, PartId};
+use power::types::{CantBe, Levels};
 use script::lines::SliceLines;
+use sim::state::Sim;
 
-// Not a plan, or one that makes no sense.
-pub const NO_PLAN: u32 = 1;
+// Why C is refused: not a plan, or one that makes no sense; or what is wanted can't be.
+#[derive(Clone, Copy, Debug, PartialEq, Eq)]
+pub enum Refused {
+    NoPlan,
+    CantBe,
+}
 
-// What is wanted can't be.
-pub const CANT_BE: u32 = 5;
+// the number that C is told
+impl From<Refused> for u32 {
+    ghost from_gives = { λ e n. n ≡ code_of e };
 
-// What is wanted of part n, 0 past the end.
-fn want_at(wants: &[u32], n: u32) -> u32
-    ensures { result ≡ slice_index wants.now n }
-{
-    if (n as usize) < wants.len() {
-        wants[n as usize]
-    } else {
-        0
+    fn from(e: Refused) -> u32 {
+        match e {
+            Refused::NoPlan => 1,
+            Refused::CantBe => 5,
+        }
     }
+}
+
+impl From<CantBe> for Refused {
+    ghost from_gives = { λ _ e. e ≡ refused.CantBe };
+
+    fn from(_e: CantBe) -> Refused {
+        Self::CantBe
+    }
+}
+
+// What is wanted of part x, 0 past the end.
+fn want_at(wants: &[u32], x: usize) -> u32
+    ensures { result ≡ slice_index wants.now x }
+{
+    wants.get(x).copied().unwrap_or(0)
 }
 
 // A level for each part: those of a slice, and 0 past its end.
 fn levels_of(wants: &[u32]) -> Levels
     ensures { (x : ℕ) → x < 64 → at result x ≡ slice_index wants.now x }
 {
-    let mut levels = Levels::new();
-    for n in 0..64 {
-        levels.put(PartId { n }, want_at(wants, n));
+    let mut of = [0; 64];
+    for (x, level) in of.iter_mut().enumerate() {
+        *level = want_at(wants, x);
     }
-    levels
+    Levels { of }
 }
 
 // Writes the levels of the first parts, as many as there is room for.
 fn write_levels(levels: &Levels, out: &mut [u32])
     ensures { (x : ℕ) → x < 64 → x < length out.new → slice_index out.new x ≡ at levels.now x }
 {
-    for n in 0..64 {
-        if (n as usize) < out.len() {
-            out[n as usize] = levels.get(PartId { n });
-        }
-    }
+    let n = out.len().min(64);
+    out[..n].copy_from_slice(&levels.of[..n]);
 }
 
-// Does a plan make sense? 0, or `NO_PLAN`.
+// The board of a plan, if it is one.
+fn board(plan: &[u8]) -> Result<Sim, Refused> {
+    let mut lines = SliceLines { rest: plan };
+    read_board(&mut lines).ok_or(Refused::NoPlan)
+}
+
+fn write_least(plan: &[u8], wants: &[u32], levels: &mut [u32]) -> Result<(), Refused> {
+    let sim = board(plan)?;
+    let found = least(&sim, &levels_of(wants))?;
+    write_levels(&found, levels);
+    Ok(())
+}
+
+// Does a plan make sense? 0, or the number of a refusal.
 #[unsafe(no_mangle)]
 pub extern "C" fn tizgulk_check(plan: &[u8]) -> u32 {
-    let mut lines = SliceLines { rest: plan };
-    match read_board(&mut lines) {
-        Some(_) => 0,
-        None => NO_PLAN,
-    }
+    board(plan).err().map_or(0, u32::from)
 }
 
-// The least levels of a plan's parts, where wants[x] is the level wanted of part x, 0 if it isn't wanted: 0, `NO_PLAN` or `CANT_BE`.
+// The least levels of a plan's parts, where wants[x] is the level wanted of part x, 0 if it isn't wanted: 0, or the number of a refusal.
 #[unsafe(no_mangle)]
 pub extern "C" fn tizgulk_least(plan: &[u8], wants: &[u32], levels: &mut [u32]) -> u32 {
-    let mut lines = SliceLines { rest: plan };
-    let Some(sim) = read_board(&mut lines) else {
-        return NO_PLAN;
-    };
-    match least(&sim, &levels_of(wants)) {
-        Ok(found) => {
-            write_levels(&found, levels);
-            0
-        }
-        Err(_) => CANT_BE,
-    }
+    write_least(plan, wants, levels).err().map_or(0, u32::from)
 }

@@ -1,4 +1,3 @@
 pub mod Drafts
 pub mod Inputs
-pub mod Plays
 pub mod Stages

@@ -1,82 +1,76 @@
 // A plan as its lines come.
-ghost use Rattle.std.specs.Prelude.{◌≡◌, true, false, not, ◌||◌};
-ghost use Rattle.play.specs.Drafts.{Drafted, Added, Heeded};
+ghost use Rattle.std.specs.Prelude.{◌≡◌, None};
+ghost use Rattle.play.specs.Drafts.{Begun, Drafted, Added, Heeded};
 
 use script::line::Line;
 use sim::plan::{Plan, PlanPart};
 use sim::state::Sim;
 
-// The parts so far; `spoilt` says that no plan can hold what was written.
+// The parts so far; None: no plan can hold what was written.
 #[derive(Drop)]
 pub struct Draft {
-    plan: Plan,
-    spoilt: bool,
+    plan: Option<Plan>,
 }
 
-// What a line of a plan comes to: more of them, the plan is whole, or it's no line here.
-#[derive(Clone, Copy)]
+// What a line of a plan comes to: more of them, or the plan is whole.
+#[derive(Clone, Copy, Debug, PartialEq, Eq)]
 pub enum Step {
     More,
     Whole,
-    Unclear,
 }
 
 impl Draft {
     // No part yet.
     pub fn new() -> Draft
-        ensures { (result.plan.parts ≡ 0) × (result.plan.gives ≡ 4294967295) × (result.spoilt ≡ false) }
+        ensures { Begun result.plan }
     {
         Draft {
-            plan: Plan::none(),
-            spoilt: false,
+            plan: Some(Plan::none()),
         }
     }
 
     // Part x comes next, if parts come in their order and are no more than 64.
     pub fn add(&mut self, x: u32, part: PlanPart)
-        ensures { Added x part self.old self.new }
+        ensures { Added x part self.old.plan self.new.plan }
     {
-        if x != self.plan.parts {
-            self.spoil();
+        let Some(plan) = &mut self.plan else {
             return;
-        }
-        if self.plan.add(part).is_err() {
+        };
+        if x != plan.parts || plan.add(part).is_err() {
             self.spoil();
         }
     }
 
     // No plan can hold what was written.
     pub fn spoil(&mut self)
-        ensures { (self.new.plan ≡ self.old.plan) × (self.new.spoilt ≡ true) }
+        ensures { self.new.plan ≡ None }
     {
-        self.spoilt = true;
+        self.plan = None;
     }
 
     // The board, if the plan isn't spoilt and makes sense.
     pub fn board(&self) -> Option<Sim>
-        ensures { Drafted self.now result }
+        ensures { Drafted self.now.plan result }
     {
-        if self.spoilt {
-            return None;
-        }
-        match Sim::new(self.plan) {
-            Ok(sim) => Some(sim),
-            Err(_) => None,
-        }
+        Sim::new(self.plan?).ok()
     }
 
-    // A line of the plan.
-    pub fn heed(&mut self, line: Line) -> Step
-        ensures { Heeded line result self.old self.new }
+    // A line of the plan; None: it's no line of one.
+    pub fn heed(&mut self, line: Line) -> Option<Step>
+        ensures { Heeded line result self.old.plan self.new.plan }
     {
         match line {
             Line::Part(x, part) => self.add(x, part),
             Line::Unfit(_) => self.spoil(),
-            Line::Gives(n) => self.plan.set_gives(n),
+            Line::Gives(n) => {
+                if let Some(plan) = &mut self.plan {
+                    plan.set_gives(n);
+                }
+            }
             Line::New => *self = Draft::new(),
-            Line::Run => return Step::Whole,
-            _ => return Step::Unclear,
+            Line::Run => return Some(Step::Whole),
+            _ => return None,
         }
-        Step::More
+        Some(Step::More)
     }
 }

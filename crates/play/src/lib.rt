@@ -6,4 +6,5 @@ pub mod plans;
 pub mod play;
 pub mod program;
 pub mod reader;
+pub mod session;
 pub mod stage;

@@ -4,7 +4,7 @@ ghost use Rattle.std.specs.Prelude.{IfSome};
 ghost use Rattle.sim.specs.Boards.{board_of};
 
 use super::draft::{Draft, Step};
-use super::reader::{Input, Reader};
+use super::reader::Reader;
 use script::lines::Lines;
 use sim::state::Sim;
 
@@ -15,15 +15,12 @@ pub fn read_board<L: Lines>(lines: &mut L) -> Option<Sim>
     let mut reader = Reader::new();
     let mut draft = Draft::new();
     for _ in 0..u64::MAX {
-        let step = match reader.next(lines) {
-            Input::Says(line) => draft.heed(line),
-            Input::Unclear => Step::Unclear,
-            Input::Ended => Step::Whole,
+        let Some(said) = reader.next(lines) else {
+            return draft.board();
         };
-        match step {
+        match draft.heed(said.ok()?)? {
             Step::More => {}
             Step::Whole => return draft.board(),
-            Step::Unclear => return None,
         }
     }
     None

@@ -1,106 +1,76 @@
 // Plays an input: plans, each with its script.
+ghost use Rattle.std.specs.Prelude.{IfSome};
 ghost use Rattle.power.specs.Board.{AtStart};
 ghost use Rattle.sim.specs.Boards.{board_of};
-ghost use Rattle.play.specs.Plays.{Starts};
 
 use super::draft::{Draft, Step};
-use super::reader::{Input, Reader};
+use super::session::Session;
 use super::stage::Stage;
-use power::{World, days};
+use power::days;
 use script::event::{Event, Say};
 use script::line::Line;
 use script::lines::Lines;
 use sim::state::Sim;
 
-// How reading a plan ended.
-#[derive(Drop)]
-enum Planned {
-    Board(Sim),
-    NoPlan,
-    Ended,
-}
-
-fn whole(draft: &Draft) -> Planned
-    ensures { Starts result }
-{
-    match draft.board() {
-        Some(sim) => Planned::Board(sim),
-        None => Planned::NoPlan,
-    }
-}
-
-// The plan up to its `run`.
-fn read_plan<L: Lines, S: Say>(lines: &mut L, reader: &mut Reader, out: &mut S) -> Planned
-    ensures { Starts result }
-{
-    let mut draft = Draft::new();
-    for _ in 0..u64::MAX {
-        let step = match reader.next(lines) {
-            Input::Says(line) => draft.heed(line),
-            Input::Unclear => Step::Unclear,
-            Input::Ended => return Planned::Ended,
-        };
-        match step {
-            Step::More => {}
-            Step::Whole => return whole(&draft),
-            Step::Unclear => out.say(Event::NoLine(reader.number())),
-        }
-    }
-    Planned::Ended
-}
-
-fn is_new(line: Line) -> bool {
-    match line {
-        Line::New => true,
-        _ => false,
-    }
-}
-
-// Passes over all lines up to the next `new`; whether there is one.
-fn skip_to_new<L: Lines>(lines: &mut L, reader: &mut Reader) -> bool {
-    for _ in 0..u64::MAX {
-        match reader.next(lines) {
-            Input::Says(line) => {
-                if is_new(line) {
-                    return true;
-                }
+impl<L: Lines, S: Say> Session<'_, '_, L, S> {
+    // The plan up to its `run`, if there is one.
+    fn read_plan(&mut self) -> Option<Draft> {
+        let mut draft = Draft::new();
+        for _ in 0..u64::MAX {
+            let step = match self.next()? {
+                Ok(line) => draft.heed(line),
+                Err(_) => None,
+            };
+            match step {
+                Some(Step::More) => {}
+                Some(Step::Whole) => return Some(draft),
+                None => self.unclear(),
             }
-            Input::Unclear => {}
-            Input::Ended => return false,
+        }
+        None
+    }
+
+    // Passes over all lines up to the next `new`; whether there is one.
+    fn skip_to_new(&mut self) -> bool {
+        for _ in 0..u64::MAX {
+            match self.next() {
+                Some(Ok(Line::New)) => return true,
+                Some(_) => {}
+                None => return false,
+            }
+        }
+        false
+    }
+
+    // Plays a script on a board; whether another plan follows.
+    fn run(&mut self, sim: Sim) -> bool
+        requires { AtStart (board_of sim) }
+    {
+        let mut stage = Stage::new(sim, self);
+        days(&mut stage, u64::MAX);
+        stage.renewed
+    }
+
+    // Plays a plan with its script; whether another follows.
+    fn play_plan(&mut self) -> bool {
+        let Some(draft) = self.read_plan() else {
+            return false;
+        };
+        match draft.board() {
+            Some(sim) => self.run(sim),
+            None => {
+                self.say(Event::NoPlan);
+                self.skip_to_new()
+            }
         }
     }
-    false
-}
-
-// Plays a script on a board; whether another plan follows.
-fn run<L: Lines, S: Say>(sim: Sim, lines: &mut L, reader: &mut Reader, out: &mut S) -> bool
-    requires { AtStart (board_of sim) }
-{
-    let mut stage = Stage {
-        sim,
-        lines,
-        reader,
-        out,
-        ticks: 0,
-        renewed: false,
-    };
-    days(&mut stage, u64::MAX);
-    stage.renewed
 }
 
 // Plays an input to its end.
 pub fn play<L: Lines, S: Say>(lines: &mut L, out: &mut S) {
-    let mut reader = Reader::new();
+    let mut session = Session::new(lines, out);
     for _ in 0..u64::MAX {
-        let more = match read_plan(lines, &mut reader, out) {
-            Planned::Board(sim) => run(sim, lines, &mut reader, out),
-            Planned::NoPlan => {
-                out.say(Event::NoPlan);
-                skip_to_new(lines, &mut reader)
-            }
-            Planned::Ended => false,
-        };
-        if !more {
+        if !session.play_plan() {
             return;
         }
     }

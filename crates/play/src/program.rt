@@ -11,11 +11,6 @@ pub fn run<R: Read, W: Write>(input: &mut R, output: &mut W) -> io::Result<()> {
     let mut out = Printer::new(output);
     play(&mut lines, &mut out);
     out.flush();
-    if lines.failed() {
-        return Err(io::ErrorKind::UnexpectedEof.into());
-    }
-    if out.failed() {
-        return Err(io::ErrorKind::BrokenPipe.into());
-    }
-    Ok(())
+    lines.end()?;
+    out.end()
 }

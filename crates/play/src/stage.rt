@@ -3,7 +3,7 @@ ghost use Rattle.std.specs.Prelude.{◌≡◌};
 ghost use Rattle.sim.specs.Boards.{board_of};
 ghost use Rattle.play.specs.Stages.{calls_for, ticks_after};
 
-use super::reader::{Input, Reader};
+use super::session::Session;
 use power::{Answer, Call, Next, Parts, World};
 use script::event::{Event, Say};
 use script::line::Line;
@@ -12,42 +12,24 @@ use sim::state::Sim;
 
 // `ticks` are still to come before the next line; `renewed` says that the script ended with `new`.
 #[derive(Drop)]
-pub struct Stage<'a, 'b, 'c, L, S> {
+pub struct Stage<'s, 'a, 'b, L, S> {
     pub sim: Sim,
-    pub lines: &'a mut L,
-    pub reader: &'b mut Reader,
-    pub out: &'c mut S,
+    pub session: &'s mut Session<'a, 'b, L, S>,
     pub ticks: u32,
     pub renewed: bool,
 }
 
-impl<L: Lines, S: Say> Stage<'_, '_, '_, L, S> {
-    // The last line is no line here.
-    fn unclear(&mut self)
-        ensures { (self.new.sim ≡ self.old.sim) × (self.new.ticks ≡ self.old.ticks) × (self.new.renewed ≡ self.old.renewed) }
+impl<'s, 'a, 'b, L: Lines, S: Say> Stage<'s, 'a, 'b, L, S> {
+    pub fn new(sim: Sim, session: &'s mut Session<'a, 'b, L, S>) -> Stage<'s, 'a, 'b, L, S>
+        ensures sim { result.sim ≡ sim }
+        ensures ticks { result.ticks ≡ 0 }
     {
-        let number = self.reader.number();
-        self.out.say(Event::NoLine(number));
-    }
-
-    // The least for what is granted. (There always is one: what was granted can be.)
-    fn say_least(&mut self)
-        ensures { (self.new.sim ≡ self.old.sim) × (self.new.ticks ≡ self.old.ticks) × (self.new.renewed ≡ self.old.renewed) }
-    {
-        match self.sim.least_granted() {
-            Ok(levels) => self
-                .out
-                .say_levels(&levels.of[0..self.sim.plan.parts as usize]),
-            Err(_) => self.unclear(),
+        Stage {
+            sim,
+            session,
+            ticks: 0,
+            renewed: false,
         }
-    }
-
-    // What all parts draw now.
-    fn say_drawn(&mut self)
-        ensures { (self.new.sim ≡ self.old.sim) × (self.new.ticks ≡ self.old.ticks) × (self.new.renewed ≡ self.old.renewed) }
-    {
-        let sum = self.sim.drawn();
-        self.out.say(Event::Drawn(sum));
     }
 
     // What a line of the script calls for now, if anything.
@@ -71,9 +53,15 @@ impl<L: Lines, S: Say> Stage<'_, '_, '_, L, S> {
             }
             Line::Bad(x) if x < self.sim.parts() => self.sim.bad(x),
             Line::Slow(x, n) if x < self.sim.parts() => self.sim.slow(x, n),
-            Line::Least => self.say_least(),
-            Line::Drawn => self.say_drawn(),
-            _ => self.unclear(),
+            // There always is a least: what was granted can be.
+            Line::Least => match self.sim.least_granted() {
+                Ok(levels) => self
+                    .session
+                    .say_levels(&levels.of[..self.sim.plan.parts as usize]),
+                Err(_) => self.session.unclear(),
+            },
+            Line::Drawn => self.session.say(Event::Drawn(self.sim.drawn())),
+            _ => self.session.unclear(),
         }
         None
     }
@@ -112,25 +100,25 @@ impl<L: Lines, S: Say> Parts for Stage<'_, '_, '_, L, S> {
 
     fn raise(&mut self, x: u32) {
         self.sim.raise(x);
-        self.out.say(Event::Raise(x));
+        self.session.say(Event::Raise(x));
     }
 
     fn good(&mut self, x: u32) -> bool {
         let good = self.sim.good(x);
         if good {
-            self.out.say(Event::Good(x));
+            self.session.say(Event::Good(x));
         }
         good
     }
 
     fn lower(&mut self, x: u32) {
         self.sim.lower(x);
-        self.out.say(Event::Lower(x));
+        self.session.say(Event::Lower(x));
     }
 
     fn level(&mut self, x: u32, v: u32) {
         self.sim.level(x, v);
-        self.out.say(Event::Level(x, v));
+        self.session.say(Event::Level(x, v));
     }
 }
 
@@ -141,10 +129,12 @@ impl<L: Lines, S: Say> World for Stage<'_, '_, '_, L, S> {
             return Next::Tick;
         }
         for _ in 0..u64::MAX {
-            match self.reader.next(self.lines) {
-                Input::Ended => return Next::Over,
-                Input::Unclear => self.unclear(),
-                Input::Says(line) => {
+            let Some(said) = self.session.next() else {
+                return Next::Over;
+            };
+            match said {
+                Err(_) => self.session.unclear(),
+                Ok(line) => {
                     if let Some(next) = self.heed(line) {
                         return next;
                     }
@@ -156,7 +146,7 @@ impl<L: Lines, S: Say> World for Stage<'_, '_, '_, L, S> {
 
     fn said(&mut self, c: Call, no: u32) {
         self.sim.said(c, no);
-        self.out.say(if no == 0 {
+        self.session.say(if no == 0 {
             Event::Taken
         } else {
             Event::Away(no)
@@ -165,7 +155,7 @@ impl<L: Lines, S: Say> World for Stage<'_, '_, '_, L, S> {
 
     fn told(&mut self, u: u32, a: Answer) {
         self.sim.told(u, a);
-        self.out.say(match a {
+        self.session.say(match a {
             Answer::Done => Event::Done(u),
             Answer::No(k) => Event::No(u, k),
         });

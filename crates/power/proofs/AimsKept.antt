@@ -1,5 +1,5 @@
 -- What is aimed at for a want, from when it is made: after a walk, a tick, and a call of anybody else. Assumes nothing.
-use Rattle.std.proofs.Common.{◌≡◌, ℕ, ◌≤◌, T, sym, ◌∙◌, subst, arith}
+use Rattle.std.proofs.Common.{◌≡◌, ℕ, ◌≤◌, not, T, Some, None, Option, IfSome, IsSomeAnd, sym, ◌∙◌, subst, arith}
 use mathlib.Core.Path.{fun_ext}
 use Rattle.power.specs.declared.types.Aims.{Aims}
 use Rattle.power.specs.Board.{Board, Wish, None', Asked, Granted, is_asked, can_be, granted, and_also, good_plan, with_wish, ticked}
@@ -30,6 +30,10 @@ aims_made b f x l a s e m =
       same = found_is b (and_also (λ (z : ℕ). 0) x l) a.goal t.goal;
       can = t.ceiling.can;
     }
+
+-- or can't be
+pub never_made : (b : Board) (f : ℕ → ℕ) (x l : ℕ) → ((y : ℕ) → f y ≡ granted b y) → T (not (can_be b (and_also f x l))) → T (not (can_be b (and_also (granted b) x l)))
+never_made b f x l e t = subst (λ (g : ℕ → ℕ). T (not (can_be b (and_also g x l)))) (fun_ext e) t
 
 -- AFTER A WALK, AND A TICK
 pub aims_only : (b b' : Board) (a : Aims) (x l : ℕ) → OnlyParts b b' → AimsAt b a x l → AimsAt b' a x l
@@ -69,6 +73,11 @@ aims_of b a w x l g e h = subst (λ (v : Wish). AimsFor b a v) e h
 
 pub aims_for : (b : Board) (a : Aims) (w : Wish) (x l g : ℕ) → w ≡ Asked x l g → AimsAt b a x l → AimsFor b a w
 aims_for b a w x l g e h = subst (λ (v : Wish). AimsFor b a v) (sym e) h
+
+-- what was made is of the value that there is
+pub some_then : {X : Type 0} {P Q : X → Type 0} (o : Option X) → IsSomeAnd o P → ((x : X) → P x → Q x) → IfSome o Q
+some_then None p h = absurd p
+some_then (Some x) p h = h x p
 
 pub aims_asked : (b : Board) (a : Aims) (w : Wish) → AimsFor b a w → T (is_asked w)
 unfolding is_asked

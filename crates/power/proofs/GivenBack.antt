@@ -4,7 +4,7 @@ use Rattle.std.proofs.lemmas.Bool.{cases_lt}
 use Rattle.power.specs.declared.Call.TheVariants.{Want, Give}
 use Rattle.power.specs.declared.refusal.Refusal.{Refusal}
 use Rattle.power.specs.declared.refusal.Refusal.TheVariants.{NoSuch, Already, Nothing}
-use Rattle.power.specs.declared.Keeper.{Keeper}
+use Rattle.power.specs.declared.knowledge.Keeper.{Keeper}
 use Rattle.power.specs.Board.{Board, Wish, None', is_none, why, called}
 use Rattle.power.specs.Refused.{number_of}
 use Rattle.power.specs.Kept.{Kept}
@@ -50,9 +50,3 @@ want_refused k u x l b e w t m =
     let d : called (Want u x l) b ≡ b = called_away (Want u x l) b (number_of (Err e)) w (refused e) in
     let n : T (is_none ((called (Want u x l) b).wish u)) = subst (λ (c : Board). T (is_none (c.wish u))) (sym d) t in
     subst (λ (c : Board). Kept k c) (sym (give_nothing u (called (Want u x l) b) n)) m
-
--- the guard holds what u wants of this very keeper k, and leaves it as `after`, which is what its owner sees then
-pub dropped :
-    (k held after seen : Keeper) (u v : ℕ) (b : Board) → held ≡ k → v ≡ u → ((d : Board) → Kept held d → Kept after (called (Give v) d)) → seen ≡ after → Kept k b → Kept seen (called (Give u) b)
-dropped k held after seen u v b ek ev h e m =
-    subst (λ (i : Keeper). Kept i (called (Give u) b)) (sym e) (subst (λ (i : ℕ). Kept after (called (Give i) b)) ev (h b (subst (λ (i : Keeper). Kept i b) (sym ek) m)))

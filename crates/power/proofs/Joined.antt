@@ -1,10 +1,9 @@
 -- The least of two wants together, and levels that are tight. Assumes nothing.
-use Rattle.std.proofs.Common.{◌≡◌, ℕ, zero, suc, ◌+◌, ◌<◌, ◌≤◌, T, sym, ap, subst, inl, inr, le_antisymm, arith}
-use mathlib.Core.Path.{fun_ext}
-use Rattle.power.specs.Board.{Board, on_of, larger, and_also, can_be, good_plan}
+use Rattle.std.proofs.Common.{◌≡◌, ℕ, zero, suc, ◌+◌, ◌<◌, ◌≤◌, T, ap, inl, inr, le_antisymm, arith}
+use Rattle.power.specs.Board.{Board, on_of, larger, good_plan}
 use Rattle.power.specs.Aim.{Serves}
 use Rattle.power.specs.Least.{lv, LeastJoins, Tight, LeastIsTight, TightIsLeast}
-use Rattle.power.proofs.Larger.{larger_l, larger_r, larger_le, larger_one, and_also_both}
+use Rattle.power.proofs.Larger.{larger_l, larger_r, larger_le, larger_one}
 use Rattle.power.proofs.Lowest.{least_wanted, serves_least, least_asked, least_le, least_below, least_more, least_fifteen}
 
 -- the larger of levels that serve serves
@@ -37,12 +36,6 @@ least_joins b f g p c x = le_antisymm (least_below b both top p low wants (serve
     wants : (z : ℕ) → z < b.parts → both z ≤ top z
     wants z h =
         larger_le (f z) (g z) (top z) (omega (arith, least_wanted b f z h, larger_l (lv b f z) (lv b g z))) (omega (arith, least_wanted b g z h, larger_r (lv b f z) (lv b g z)))
-
--- one want more: the larger of what was least, and what's least for that want alone
-pub least_also : (b : Board) (g : ℕ → ℕ) (x l : ℕ) → T (good_plan b) → T (can_be b (and_also g x l)) → (y : ℕ) → lv b (and_also g x l) y ≡ larger (lv b g y) (lv b (and_also (λ (z : ℕ). 0) x l) y)
-least_also b g x l p =
-    let one = and_also (λ (z : ℕ). 0) x l in
-    subst (λ (w : ℕ → ℕ). T (can_be b w) → (y : ℕ) → lv b w y ≡ larger (lv b g y) (lv b one y)) (sym (fun_ext (and_also_both g x l))) (least_joins b g one p)
 
 -- TIGHT
 pub least_is_tight : LeastIsTight

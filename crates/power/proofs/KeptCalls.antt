@@ -1,7 +1,12 @@
 -- The keeper's invariant: at the start, and after a call. Assumes nothing.
-use Rattle.std.proofs.Common.{◌≡◌, ℕ, ◌<◌, false, T, ◌≢◌, replicate, sym, ◌∙◌, subst, arith}
+use Rattle.std.proofs.Common.{◌≡◌, ℕ, ◌<◌, T, ◌≢◌, None, Option, IfSome, Result, IsErrAnd, replicate, sym, ◌∙◌, subst, arith}
+use Rattle.std.proofs.lemmas.Option.{IfSome_then}
+use Rattle.std.proofs.lemmas.Result.{err_from_is_err_and}
+use Rattle.power.specs.Refused.{number_of}
+use Rattle.power.specs.declared.refusal.Refusal.{Refusal}
+use Rattle.power.specs.declared.refusal.Refusal.TheVariants.{NoSuch}
 use Rattle.power.specs.declared.Call.{Call}
-use Rattle.power.specs.declared.Keeper.{Keeper}
+use Rattle.power.specs.declared.knowledge.Keeper.{Keeper}
 use Rattle.power.specs.declared.types.Aims.{Aims}
 use Rattle.power.specs.declared.state.Wanted.TheVariants as wanted
 use Rattle.power.specs.Board.{Board, Wish, None', Asked, Granted, is_none, is_asked, put, with_wish, why, called, AtStart}
@@ -20,7 +25,7 @@ use Rattle.power.proofs.AimsKept.{aims_asked, aims_for_wish}
 
 -- THE START
 pub kept_start :
-    (k : Keeper) (b : Board) → AtStart b → k.parts ≡ b.parts → Knows k.driver b → k.wishes.wanted ≡ replicate 32 wanted.Nothing → k.turn.aiming ≡ false → k.idle ≡ 0 → Kept k b
+    (k : Keeper) (b : Board) → AtStart b → k.parts ≡ b.parts → Knows k.driver b → k.wishes.wanted ≡ replicate 32 wanted.Nothing → k.turn.aims ≡ None → k.idle ≡ 0 → Kept k b
 kept_start k b s ep h ew et ei =
     let z = s.4 in
     record {
@@ -31,12 +36,18 @@ kept_start k b s ep h ew et ei =
       still = λ q. absurd (omega (arith, z));
       low = λ q. absurd (omega (arith, z));
       aged = aged_start k.turn.user.n b s;
-      aims = λ t. absurd (subst T et t);
+      aims = rw et tt;
     }
 
 -- A CALL IS TURNED AWAY
 pub kept_away : (k : Keeper) (c : Call) (b : Board) (n : ℕ) → n ≢ 0 → n ≡ why c b → Kept k b → (n ≡ why c b) × Kept k (called c b)
 kept_away k c b n h e m = (e, rw (called_away c b n e h) m)
+
+-- it names no user, part or level
+pub kept_no_such : (k : Keeper) (c : Call) (b : Board) (r : Result Unit Refusal) → IsErrAnd r (λ e. e ≡ NoSuch) → 1 ≡ why c b → Kept k b → (number_of r ≡ why c b) × Kept k (called c b)
+kept_no_such k c b r h e m =
+    let p = err_from_is_err_and r h in
+    rw (p.1, p.2) (kept_away k c b 1 (omega arith) e m)
 
 -- A WISH CHANGES
 knows_wish : (k : Keeper) (b : Board) (u : ℕ) (w : Wish) → Knows k.driver b → Knows k.driver (with_wish u w b)
@@ -48,7 +59,7 @@ mirrors_wish k k' b u w m ep ed ei s =
 
 kept_wish :
     (k k' : Keeper) (b : Board) (u : ℕ) (w : Wish) (c : Call) → Kept k b → called c b ≡ with_wish u w b → Mirrors k' (with_wish u w b) → Aged k'.turn.user.n (with_wish u w b) →
-    (T k'.turn.aiming → AimsFor (with_wish u w b) k'.turn.aims (put u w b.wish k'.turn.user.n)) → Kept k' (called c b)
+    IfSome k'.turn.aims (λ a. AimsFor (with_wish u w b) a (put u w b.wish k'.turn.user.n)) → Kept k' (called c b)
 kept_wish k k' b u w c m e h a t =
     let s = sound_called b c m.sound in
     subst (λ (d : Board). Sound d → Kept k' d) (sym e) (λ (s : Sound (with_wish u w b)). record {
@@ -76,21 +87,18 @@ module _ (k k' : Keeper) (b : Board) (u : ℕ) (lu : u < 32) (m : Kept k b) (ep 
       let t = k.turn.user.n in
       kept_wish k k' b u w c m e (mirrors_wish k k' b u w m.mirrors ep ed ei s)
       (rw et (aged_want t u x l b k.turn.user.below lu none m.aged))
-      (rw et (λ h.
-      let a = m.aims h in
-      let ne : t ≢ u = λ q. asked_some (b.wish t) (aims_asked b k.turn.aims (b.wish t) a) (subst (λ (v : ℕ). T (is_none (b.wish v))) (sym q) none) in
-      subst (λ (v : Wish). AimsFor (with_wish u w b) k.turn.aims v) (sym (put_other u w b.wish t ne))
-      (aims_for_wish b u w k.turn.aims (b.wish t) m.sound.plan (λ y v q. granted_asked y v x l 0 (sym q)) a)))
+      (rw et (IfSome_then k.turn.aims m.aims (λ a h.
+      let ne : t ≢ u = λ q. asked_some (b.wish t) (aims_asked b a (b.wish t) h) (subst (λ (v : ℕ). T (is_none (b.wish v))) (sym q) none) in
+      subst (λ (v : Wish). AimsFor (with_wish u w b) a v) (sym (put_other u w b.wish t ne))
+      (aims_for_wish b u w a (b.wish t) m.sound.plan (λ y v q. granted_asked y v x l 0 (sym q)) h))))
 
   pub kept_give : (c : Call) → called c b ≡ with_wish u None' b → SaysAll k'.wishes (with_wish u None' b) → DoneWith u k.turn k'.turn → Kept k' (called c b)
   kept_give c e s d =
       let t = k.turn.user.n in
       kept_wish k k' b u None' c m e (mirrors_wish k k' b u None' m.mirrors ep ed ei s)
       (rw d.user (aged_give t u b k.turn.user.below lu m.aged))
-      (λ h.
-      let q = d.aims h in
-      let stays : k'.turn.user.n ≡ t = d.user ∙ moved_other u t q.1 in
-      let a = aims_for_wish b u None' k.turn.aims (b.wish t) m.sound.plan none_granted (m.aims q.0) in
-      subst (λ (a : Aims). AimsFor (with_wish u None' b) a (put u None' b.wish k'.turn.user.n)) (sym q.2)
-      (subst (λ (v : ℕ). AimsFor (with_wish u None' b) k.turn.aims (put u None' b.wish v)) (sym stays)
-      (subst (λ (v : Wish). AimsFor (with_wish u None' b) k.turn.aims v) (sym (put_other u None' b.wish t q.1)) a)))
+      (IfSome_then k'.turn.aims d.aims (λ a q.
+      let stays : k'.turn.user.n ≡ t = d.user ∙ moved_other u t q.0 in
+      let h = aims_for_wish b u None' a (b.wish t) m.sound.plan none_granted (subst (λ (o : Option Aims). IfSome o (λ a. AimsFor b a (b.wish t))) q.1 m.aims) in
+      subst (λ (v : ℕ). AimsFor (with_wish u None' b) a (put u None' b.wish v)) (sym stays)
+      (subst (λ (v : Wish). AimsFor (with_wish u None' b) a v) (sym (put_other u None' b.wish t q.0)) h)))

@@ -1,18 +1,17 @@
 -- The larger of two numbers, the most of many, what's granted, and one want more: each by its bounds. Assumes nothing.
-use Rattle.std.proofs.Common.{◌≡◌, ℕ, zero, suc, ◌<◌, ◌≤◌, eqb, ltb, ◌⊎◌, sym, refl, ap, ◌∙◌, subst, inl, inr, not-suc-le-zero, arith, ltb-false, ltb-true, eq-eqb, eqb-true}
-use borrow.Author.Tests.{eqb-false}
+use Rattle.std.proofs.Common.{◌≡◌, ℕ, zero, suc, ◌<◌, ◌≤◌, eqb, ltb, ◌⊎◌, sym, refl, ap, ◌∙◌, subst, inl, inr, not-suc-le-zero, arith, eq-eqb, eqb-true}
 use Rattle.std.proofs.lemmas.Bool.{cases_lt, cond_both, cond-true}
 use Rattle.std.proofs.lemmas.Bool.Decides.{nat_tests}
 use Rattle.power.specs.Board.{Board, Wish, None', Asked, Granted, larger, most, want_of, granted, and_also}
 
 pub larger_l : (a b : ℕ) → a ≤ larger a b
-larger_l a b = cond_both (ltb a b) b a (λ (x : ℕ). a ≤ x) (λ e. omega (arith, ltb-true a b e)) (λ e. omega arith)
+larger_l a b = grind (arith, nat_tests)
 
 pub larger_r : (a b : ℕ) → b ≤ larger a b
-larger_r a b = cond_both (ltb a b) b a (λ (x : ℕ). b ≤ x) (λ e. omega arith) (λ e. omega (arith, ltb-false a b e))
+larger_r a b = grind (arith, nat_tests)
 
 pub larger_le : (a b c : ℕ) → a ≤ c → b ≤ c → larger a b ≤ c
-larger_le a b c h k = cond_both (ltb a b) b a (λ (x : ℕ). x ≤ c) (λ e. k) (λ e. h)
+larger_le a b c h k = grind (arith, nat_tests)
 
 -- it's one of them
 pub larger_one : (a b : ℕ) → (larger a b ≡ a) ⊎ (larger a b ≡ b)
@@ -55,18 +54,17 @@ granted_le b x c g = most_le 32 (λ u. want_of x (b.wish u)) c (λ u hu. go u hu
 
 -- ONE WANT MORE
 pub and_also_more : (f : ℕ → ℕ) (x l y : ℕ) → f y ≤ and_also f x l y
-and_also_more f x l y = cond_both (eqb y x) (larger l (f y)) (f y) (λ (z : ℕ). f y ≤ z) (λ e. larger_r l (f y)) (λ e. omega arith)
+and_also_more f x l y = grind (arith, nat_tests)
 
 pub and_also_this : (f : ℕ → ℕ) (x l : ℕ) → l ≤ and_also f x l x
-and_also_this f x l = cond_both (eqb x x) (larger l (f x)) (f x) (λ (z : ℕ). l ≤ z) (λ e. larger_l l (f x)) (λ e. absurd (eqb-false x x e refl))
+and_also_this f x l = grind (arith, nat_tests)
 
 pub and_also_le : (f : ℕ → ℕ) (x l y c : ℕ) → f y ≤ c → (x ≡ y → l ≤ c) → and_also f x l y ≤ c
-and_also_le f x l y c h q =
-    cond_both (eqb y x) (larger l (f y)) (f y) (λ (z : ℕ). z ≤ c) (λ e. larger_le l (f y) c (q (sym (eqb-true y x e))) h) (λ e. h)
+and_also_le f x l y c h q = grind (arith, nat_tests)
 
 -- what was wanted, and x at l alone, together
 pub and_also_both : (f : ℕ → ℕ) (x l y : ℕ) → and_also f x l y ≡ larger (f y) (and_also (λ (z : ℕ). 0) x l y)
 and_also_both f x l y = grind (arith, nat_tests)
 
 pub and_also_alone : (f : ℕ → ℕ) (x l y : ℕ) → and_also (λ (z : ℕ). 0) x l y ≤ and_also f x l y
-and_also_alone f x l y = omega (arith, and_also_both f x l y, larger_r (f y) (and_also (λ (z : ℕ). 0) x l y))
+and_also_alone f x l y = grind (arith, nat_tests)

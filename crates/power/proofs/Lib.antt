@@ -5,6 +5,7 @@ pub mod Asked
 pub mod Calls
 pub mod Costs
 pub mod Draws
+pub mod Driven
 pub mod Fitted
 pub mod GivenBack
 pub mod Granting
@@ -20,9 +21,9 @@ pub mod OneWish
 pub mod Plain
 pub mod Plans
 pub mod Pursuing
-pub mod Pushing
 pub mod Puts
 pub mod Quiet
+pub mod Ranges
 pub mod Said
 pub mod Settling
 pub mod Sheet

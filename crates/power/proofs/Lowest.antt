@@ -10,16 +10,12 @@ use Rattle.power.specs.Least.{lv, FewerCanBe}
 use Rattle.power.proofs.Tests.{every_at}
 use Rattle.power.proofs.Plans.{plan_at}
 use Rattle.power.proofs.Draws.{draws_less}
-use Rattle.power.proofs.Asked.{asked_at, asked_le, length_levels, levels_wanted, levels_asked, levels_le, levels_same}
+use Rattle.power.proofs.Asked.{asked_at, asked_le, length_levels, levels_wanted, levels_asked, levels_le}
 use Rattle.power.proofs.Plain.{Wanted, serves_plainly, serves_of, allowed_plainly, allowed_of, fits_both, fits_serves}
 
 -- WHAT IT IS
 pub least_past : (b : Board) (want : ℕ → ℕ) (x : ℕ) → b.parts ≤ x → lv b want x ≡ 0
 least_past b want x h = get_or_past (least_levels b want) x 0 (omega (arith, length_levels b.needs want b.parts 0))
-
--- only what's wanted of the board's parts counts
-pub least_same : (b : Board) (want also : ℕ → ℕ) → ((x : ℕ) → x < b.parts → want x ≡ also x) → least_levels b want ≡ least_levels b also
-least_same b want also h = levels_same b.needs want also b.parts 0 (λ z l g. h z (omega arith))
 
 pub least_wanted : (b : Board) (want : ℕ → ℕ) → Wanted b want (lv b want)
 least_wanted b want x h = levels_wanted b.needs want b.parts 0 x x (omega arith) h

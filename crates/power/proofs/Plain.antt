@@ -1,12 +1,11 @@
 -- Levels that serve, and levels that are allowed: the tests as plain facts, one way and back. Assumes nothing.
 use Rattle.std.proofs.Common.{ℕ, zero, suc, ◌<◌, ◌≤◌, Bool, not, T, eqb, leb, length, inl, inr, arith, le→leb, eqb→eq, leb→le, T_not}
 use lib.Dec.{eqb_refl}
-use Rattle.power.specs.Board.{Board, on_of, least_of, most_of, drawn_at, good_plan}
+use Rattle.power.specs.Board.{Board, on_of, least_of, most_of, drawn_at}
 use Rattle.power.specs.Promise.{serves, allowed'}
 use Rattle.power.specs.Aim.{Fits, Serves}
 use Rattle.power.specs.Found.{needs_fit, parts_fit}
 use Rattle.power.proofs.Tests.{and_l, and_r, and_i, or_i, or_not, way, every_at, every_of, all_at, all_of}
-use Rattle.power.proofs.Plans.{plan_at, least_one}
 
 -- no part is below what's wanted of it
 abbrev pub Wanted : Board → (want f : ℕ → ℕ) → Type 0
@@ -84,10 +83,3 @@ fits_both b f s a = record { fifteen = a.fifteen; meets = λ x k h p i. (s x k h
 
 pub fits_serves : (b : Board) (f : ℕ → ℕ) → Fits b f → Serves b f
 fits_serves b f t x k h p i = (t.meets x k h p i).0
-
-pub fits_allowed : (b : Board) (f : ℕ → ℕ) → Fits b f → Allowed b f
-fits_allowed b f t = record { fifteen = t.fifteen; under = λ x k h p i. (t.meets x k h p i).1; draws = t.draws }
-
--- what's needed by a part that isn't off isn't off
-pub serves_on : (b : Board) (f : ℕ → ℕ) → T (good_plan b) → Serves b f → (x k : ℕ) → x < b.parts → 0 < f x → f x ≤ 15 → k < length (b.needs x) → 0 < f (on_of k (b.needs x))
-serves_on b f g s x k h p l i = omega (arith, s x k h p i, least_one x (b.needs x) k (f x) (plan_at b g x h k i) p (omega arith))

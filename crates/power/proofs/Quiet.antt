@@ -1,33 +1,24 @@
 -- What a tick makes of a board: how long it has been quiet, that it stays lean, and that it is in time. Assumes nothing.
-use Rattle.std.proofs.Common.{◌≡◌, ℕ, ◌+◌, ◌<◌, ◌≤◌, Bool, true, false, cond, not, ◌&&◌, ◌||◌, T, eqb, ltb, ◌≢◌, get_or, sym, refl, ap, subst, arith, lt→ltb}
+use Rattle.std.proofs.Common.{◌≡◌, ℕ, ◌+◌, ◌<◌, ◌≤◌, Bool, cond, not, ◌&&◌, ◌||◌, T, eqb, ltb, ◌≢◌, get_or, sym, refl, ap, subst, arith, lt→ltb, T_not}
 use mathlib.Core.Path.{fun_ext}
 use lib.Dec.{not_T}
-use Rattle.std.proofs.lemmas.Bool.{cond_both, cond-true, cond-false}
+use Rattle.std.proofs.lemmas.Bool.{cond_both}
 use Rattle.std.proofs.lemmas.Bool.Decides.{nat_tests}
 use Rattle.power.specs.Board.{Board, Wish, None', Asked, Granted, every, some', is_asked, want_of, most, granted, level_of, least_levels, lean, young, older, ticked, in_time}
-use Rattle.power.proofs.Tests.{and_i, or_l, or_r, every_of, none_of, some_of}
+use Rattle.power.proofs.Tests.{and_i, or_l, or_r, every_of, is_true, is_false, none_of, some_of}
 use Rattle.power.proofs.Sheet.{eq→eqb}
 
 -- HOW LONG IT HAS BEEN QUIET
+quiet_if : Board → Bool → ℕ
+quiet_if b waits = cond waits 0 (cond (ltb b.quiet 64) (b.quiet + 1) 64)
+
 pub quiet_some : (b : Board) (u : ℕ) → u < 32 → T (is_asked (b.wish u)) → 0 ≡ (ticked b).quiet
-quiet_some b u h t = sym (cond-true (some' 32 (λ (v : ℕ). is_asked (b.wish v))) 0 _ (so _ (some_of 32 (λ (v : ℕ). is_asked (b.wish v)) u h t)))
-  where
-    so : (x : Bool) → T x → x ≡ true
-    so true t = refl
-    so false t = absurd t
+unfolding quiet_if
+quiet_some b u h t = ap (quiet_if b) (is_true _ (some_of 32 (λ (v : ℕ). is_asked (b.wish v)) u h t))
 
 pub quiet_none : (b : Board) → ((u : ℕ) → u < 32 → T (not (is_asked (b.wish u)))) → cond (ltb b.quiet 64) (b.quiet + 1) 64 ≡ (ticked b).quiet
-quiet_none b n = sym (cond-false (some' 32 (λ (v : ℕ). is_asked (b.wish v))) 0 _ (so _ (none_of 32 (λ (v : ℕ). is_asked (b.wish v)) n)))
-  where
-    so : (x : Bool) → T (not x) → x ≡ false
-    so true t = absurd t
-    so false t = refl
-
-pub quiet_more : (q i : ℕ) → i ≡ q → i < 64 → i + 1 ≡ cond (ltb q 64) (q + 1) 64
-quiet_more q i e h = grind (arith, nat_tests)
-
-pub quiet_full : (q i : ℕ) → i ≡ q → 64 ≤ i → 64 ≡ cond (ltb q 64) (q + 1) 64
-quiet_full q i e h = grind (arith, nat_tests)
+unfolding quiet_if
+quiet_none b n = ap (quiet_if b) (is_false _ (T_not _ (none_of 32 (λ (v : ℕ). is_asked (b.wish v)) n)))
 
 pub quiet_up : (b : Board) → (ticked b).quiet ≤ b.quiet + 1
 quiet_up b =

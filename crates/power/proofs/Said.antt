@@ -8,61 +8,60 @@ use Rattle.power.specs.declared.Answer.TheVariants.{Done, No}
 use Rattle.power.specs.declared.state.Wanted.{Wanted}
 use Rattle.power.specs.declared.state.Wanted.TheVariants as wanted
 use Rattle.power.specs.declared.state.Wishes.{Wishes}
-use Rattle.power.specs.declared.types.PartId.{PartId}
-use Rattle.power.specs.declared.types.Level.{Level}
+use Rattle.power.specs.declared.state.Request.{Request}
 use Rattle.power.proofs.Puts.{put_here, put_other, set_each}
 use Rattle.power.proofs.Shown.{get_d_same}
 
 -- ONE WISH CHANGES
-pub says_put : (ws ws' : Wishes) (f : ℕ → Wish) (u : ℕ) (w : Wanted) (y : Wish) → u < 32 → ws'.wanted ≡ set ws.wanted u w →
+pub says_put : (ws ws' : Wishes) (f : ℕ → Wish) (u : ℕ) (w : Wanted Unit) (y : Wish) → u < 32 → ws'.wanted ≡ set ws.wanted u w →
     ((v : ℕ) → Says (wanted_by ws v) (f v)) → Says w y → (v : ℕ) → Says (wanted_by ws' v) (put u y f v)
 says_put ws ws' f u w y lt e all s v =
     let long : u < length ws.wanted = omega (arith, ws.long) in
     rw e (set_each Says wanted.Nothing ws.wanted f (put u y f) u w long all (rw (put_here u y f) s) (put_other u y f) v)
 
-pub says_done : (v : Wish) (x : PartId) (l : Level) → Says (wanted.Asked x l) v → Says (wanted.Granted x l) (told_of v Done)
+pub says_done : (v : Wish) (r : Request) → Says (wanted.Asked r tt) v → Says (wanted.Granted r) (told_of v Done)
 unfolding told_of
-says_done v x l s = ap (λ w. told_of w Done) s.1
+says_done v r s = ap (λ w. told_of w Done) s.1
 
-pub says_no : (v : Wish) (k : ℕ) (x : PartId) (l : Level) → Says (wanted.Asked x l) v → Says wanted.Nothing (told_of v (No k))
+pub says_no : (v : Wish) (k : ℕ) (r : Request) → Says (wanted.Asked r tt) v → Says wanted.Nothing (told_of v (No k))
 unfolding told_of
-says_no v k x l s = ap (λ w. told_of w (No k)) s.1
+says_no v k r s = ap (λ w. told_of w (No k)) s.1
 
 -- A TICK, AND THE START
-says_older : (w : Wanted) (v : Wish) → Says w v → Says w (older v)
+says_older : (w : Wanted Unit) (v : Wish) → Says w v → Says w (older v)
 unfolding older
 says_older wanted.Nothing v s = ap older s
-says_older (wanted.Asked x l) v s = (s.0 + 1, ap older s.1)
-says_older (wanted.Granted x l) v s = ap older s
+says_older (wanted.Asked r t) v s = (s.0 + 1, ap older s.1)
+says_older (wanted.Granted r) v s = ap older s
 
 pub says_ticked : (ws : Wishes) (b : Board) → SaysAll ws b → SaysAll ws (ticked b)
 says_ticked ws b s u = says_older (wanted_by ws u) (b.wish u) (s u)
 
 pub says_start : (ws : Wishes) (b : Board) → ws.wanted ≡ replicate 32 wanted.Nothing → AtStart b → SaysAll ws b
-says_start ws b e s u = rw (e, get_d_same 32 wanted.Nothing u) (s.3 u)
+says_start ws b e s u = rw (e, get_d_same {A = Wanted Unit} 32 wanted.Nothing u) (s.3 u)
 
 -- WHAT IS SAID OF A USER
-pub nothing_said : (w : Wanted) (v : Wish) → Says w v → w ≡ wanted.Nothing → is_none v ≡ true
+pub nothing_said : (w : Wanted Unit) (v : Wish) → Says w v → w ≡ wanted.Nothing → is_none v ≡ true
 unfolding is_none
-nothing_said w v s e = ap is_none (subst (λ (z : Wanted). Says z v) e s)
+nothing_said w v s e = ap is_none (subst (λ (z : Wanted Unit). Says z v) e s)
 
-pub something_said : (w : Wanted) (v : Wish) → Says w v → w ≢ wanted.Nothing → is_none v ≡ false
+pub something_said : (w : Wanted Unit) (v : Wish) → Says w v → w ≢ wanted.Nothing → is_none v ≡ false
 unfolding is_none
 something_said wanted.Nothing v s h = absurd (h refl)
-something_said (wanted.Asked x l) v s h = ap is_none s.1
-something_said (wanted.Granted x l) v s h = ap is_none s
+something_said (wanted.Asked r t) v s h = ap is_none s.1
+something_said (wanted.Granted r) v s h = ap is_none s
 
-waits_said : (w : Wanted) (v : Wish) → Says w v → Waits w → T (is_asked v)
+waits_said : (w : Wanted Unit) (v : Wish) → Says w v → Waits w → T (is_asked v)
 unfolding is_asked
 waits_said wanted.Nothing v s t = absurd t
-waits_said (wanted.Asked x l) v s t = subst (λ (q : Wish). T (is_asked q)) (sym s.1) tt
-waits_said (wanted.Granted x l) v s t = absurd t
+waits_said (wanted.Asked r a) v s t = subst (λ (q : Wish). T (is_asked q)) (sym s.1) tt
+waits_said (wanted.Granted r) v s t = absurd t
 
-said_waits : (w : Wanted) (v : Wish) → Says w v → T (is_asked v) → Waits w
+said_waits : (w : Wanted Unit) (v : Wish) → Says w v → T (is_asked v) → Waits w
 unfolding is_asked
 said_waits wanted.Nothing v s t = subst (λ (q : Wish). T (is_asked q)) s t
-said_waits (wanted.Asked x l) v s t = tt
-said_waits (wanted.Granted x l) v s t = subst (λ (q : Wish). T (is_asked q)) s t
+said_waits (wanted.Asked r a) v s t = tt
+said_waits (wanted.Granted r) v s t = subst (λ (q : Wish). T (is_asked q)) s t
 
 pub waits_asked : (ws : Wishes) (b : Board) (u : ℕ) → SaysAll ws b → Waits (wanted_by ws u) → T (is_asked (b.wish u))
 waits_asked ws b u s = waits_said (wanted_by ws u) (b.wish u) (s u)

@@ -1,7 +1,8 @@
 -- Down to the least for what was granted: it always can be, a tick's askings are enough, and the board is lean then. Assumes nothing.
-use Rattle.std.proofs.Common.{◌≡◌, ℕ, ◌≤◌, Bool, true, false, not, T, List, sym, ap, ◌∙◌, subst, arith, T_not}
+use Rattle.std.proofs.Common.{◌≡◌, ℕ, ◌≤◌, not, T, List, Ok, Err, Result, sym, ap, ◌∙◌, subst, arith, T_not}
 use mathlib.Core.Path.{fun_ext}
 use Rattle.power.specs.declared.types.Levels.{Levels}
+use Rattle.power.specs.declared.state.Spent.{Spent}
 use Rattle.power.specs.Board.{Board, Need, Wish, granted, can_be, lean}
 use Rattle.power.specs.Sound.{Sound}
 use Rattle.power.specs.Aim.{Fits, Covers}
@@ -41,10 +42,10 @@ module _ (b : Board) (f : ℕ → ℕ) (s : Sound b) (e : (y : ℕ) → f y ≡ 
         ∙ ap (λ (ws : ℕ → Wish). L b.parts b.needs ws) o.wish)
 
     -- 64 parts at 15 are 960, so not all of the 1,024 askings were needed
-    settle_below : (r : Bool) (n m : ℕ) (b' : Board) → b.parts ≤ 64 → n ≡ 1024 → CameDown (at to) n b m b' → OrSpent r m (Below b' (at to)) → Below b' (at to)
-    settle_below true n m b' few all c h = h
-    settle_below false n m b' few all c h = absurd (omega (arith, h, c.lower, (cost_is_bounded b s few).1))
+    settle_below : (r : Result Unit Spent) (n m : ℕ) (b' : Board) → b.parts ≤ 64 → n ≡ 1024 → CameDown (at to) n b m b' → OrSpent r m (Below b' (at to)) → Below b' (at to)
+    settle_below (Ok u) n m b' few all c h = h
+    settle_below (Err e) n m b' few all c h = absurd (omega (arith, h, c.lower, (cost_is_bounded b s few).1))
 
-    pub settle_lean : (r : Bool) (n m : ℕ) (b' : Board) → b.parts ≤ 64 → n ≡ 1024 → CameDown (at to) n b m b' → OrSpent r m (Below b' (at to)) → Sound b' → T (lean b')
+    pub settle_lean : (r : Result Unit Spent) (n m : ℕ) (b' : Board) → b.parts ≤ 64 → n ≡ 1024 → CameDown (at to) n b m b' → OrSpent r m (Below b' (at to)) → Sound b' → T (lean b')
     settle_lean r n m b' few all c h s' =
         lean_below least_is_least b' s' (subst (λ (l : ℕ → ℕ). Below b' l) (same_least b' c.only) (settle_below r n m b' few all c h))

@@ -1,5 +1,5 @@
 -- The sweep from the last part to the first: its start, a turn, and its end at a level above 15. Assumes nothing.
-use Rattle.std.proofs.Common.{◌≡◌, ℕ, zero, suc, ◌+◌, ◌<◌, ◌≤◌, not, T, eqb, length, get_or, replicate, refl, ap, ◌∙◌, inl, inr, le_antisymm, arith}
+use Rattle.std.proofs.Common.{◌≡◌, ℕ, ◌+◌, ◌<◌, ◌≤◌, not, T, eqb, length, refl, ap, ◌∙◌, inl, inr, le_antisymm, arith}
 use lib.Dec.{not_T}
 use Rattle.std.proofs.lemmas.Bool.{cases_eq, cond-true, cond-false, eq-eqb, ne_eqb}
 use Rattle.power.specs.Board.{Board, larger, and_also, on_of, least_of, good_plan, can_be}
@@ -87,9 +87,3 @@ module _ (b : Board) (want f u : ℕ → ℕ) (g : T (good_plan b)) (y p : ℕ) 
 
   pub too_high : (l : ℕ) → l ≡ u p → 15 < l → T (not (can_be b want))
   too_high l el hi = not_T (can_be b want) (λ c. omega (arith, here_is, least_fifteen b want c p))
-
--- all parts off
-pub nothing_at : (x n : ℕ) → ◌≡◌ {A = ℕ} (get_or (replicate n 0) x 0) 0
-nothing_at x zero = refl
-nothing_at zero (suc n) = refl
-nothing_at (suc x) (suc n) = nothing_at x n

@@ -2,7 +2,7 @@
 use Rattle.std.proofs.Common.{ℕ, ◌+◌, ◌-◌, ◌<◌, ◌≤◌, Bool, true, false, T, sym, subst, inl, inr, arith}
 use Rattle.std.proofs.lemmas.Bool.{cases_eq}
 use Rattle.power.specs.Board.{Board, Part, Off, Rising, On, is_on, level_of, put, with_parts, Tries, good, not_yet}
-use Rattle.power.specs.Aim.{Fits, Covers, Serves}
+use Rattle.power.specs.Aim.{Fits, Serves}
 use Rattle.power.specs.Sound.{Sound}
 use Rattle.power.specs.Walk.{Below, Under, Down, Up, DownSteps, UpSteps}
 use Rattle.power.proofs.Puts.{put_each}
@@ -11,9 +11,6 @@ use Rattle.power.proofs.SoundSteps.{sound_lowered, sound_levelled, sound_raised,
 use Rattle.power.proofs.NextStep.{down_goes_on, up_goes_on}
 
 -- DOWN
-pub down_start : (b : Board) (t : ℕ → ℕ) → Sound b → Fits b t → Covers b t → Down b t b.parts
-down_start b t s f c = record { sound = s; fits = f; covers = c; through = λ z h hz. absurd (omega arith) }
-
 -- a target asks only of the plan: the record anew, with the same fields
 fits_with : (b : Board) (t : ℕ → ℕ) (p : ℕ → Part) (n : ℕ → ℕ) → Fits b t → Fits (with_parts p n b) t
 fits_with b t p n f = record { fifteen = f.fifteen; meets = f.meets; draws = f.draws }

@@ -1,5 +1,5 @@
 -- Totals over parts: their bound, one over another, and one part that changes. Assumes nothing.
-use Rattle.std.proofs.Common.{◌≡◌, ℕ, zero, suc, ◌+◌, ◌*◌, ◌<◌, ◌≤◌, ◌≢◌, sym, refl, ap, inl, inr, mul-suc, add-one, arith}
+use Rattle.std.proofs.Common.{◌≡◌, ℕ, zero, suc, ◌+◌, ◌*◌, ◌<◌, ◌≤◌, ◌≢◌, sym, refl, ap, inl, inr, mul-suc, arith}
 use Rattle.std.proofs.lemmas.Bool.{cases_eq}
 use Rattle.power.specs.Board.{total}
 
@@ -7,10 +7,6 @@ pub total_le : (n c : ℕ) (f : ℕ → ℕ) → ((x : ℕ) → x < n → f x �
 unfolding total
 total_le zero c f h = omega arith
 total_le (suc n) c f h = omega (arith, total_le n c f (λ x l. h x (omega arith)), h n (omega arith), mul-suc c n)
-
-pub total_next : (n : ℕ) (f : ℕ → ℕ) → total (n + 1) f ≡ total n f + f n
-unfolding total
-total_next n f = rw add-one
 
 -- f is nowhere above g
 pub total_more : (n : ℕ) (f g : ℕ → ℕ) → ((x : ℕ) → x < n → f x ≤ g x) → total n f ≤ total n g

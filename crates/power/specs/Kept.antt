@@ -1,9 +1,9 @@
 -- What holds of the keeper and the board between any two calls of the keeper, and what a tick's work comes to.
 -- Assumes nothing.
-use Rattle.std.specs.Prelude.{◌≡◌, ℕ, ◌+◌, ◌<◌, ◌≤◌, not, T, Some, None, Option}
+use Rattle.std.specs.Prelude.{◌≡◌, ℕ, ◌+◌, ◌<◌, ◌≤◌, not, T, Some, None, Option, IfSome, IsSomeAnd}
 use Rattle.power.specs.declared.Answer.{Answer}
 use Rattle.power.specs.declared.types.Aims.{Aims}
-use Rattle.power.specs.declared.Keeper.{Keeper}
+use Rattle.power.specs.declared.knowledge.Keeper.{Keeper}
 use Rattle.power.specs.Board.{Board, Asked, is_asked, lean, may_tell, may_tell_of, told, in_time, ticked}
 use Rattle.power.specs.Sound.{Sound}
 use Rattle.power.specs.Cost.{costs}
@@ -29,12 +29,12 @@ pub record Kept (k : Keeper) (b : Board) : Type 0 where
   pub still : 0 < b.quiet → (u : ℕ) → u < 32 → T (not (is_asked (b.wish u)))
   pub low : 32 < b.quiet → T (lean b)
   pub aged : Aged k.turn.user.n b
-  pub aims : T k.turn.aiming → AimsFor b k.turn.aims (b.wish k.turn.user.n)
+  pub aims : IfSome k.turn.aims (λ a. AimsFor b a (b.wish k.turn.user.n))
 
 -- A tick's work for the want x at l. Nothing to tell: all 1,024 askings went into its goal, and what is aimed at still is right. Else an answer that may be told.
-abbrev pub Pursued : Option Answer → Aims → (x l : ℕ) → Board → Board → Type 0
-Pursued None a x l b b' = (costs b (goal b x l) ≤ 5056) × (costs b' (goal b' x l) + 1024 ≤ costs b (goal b x l)) × AimsAt b' a x l
-Pursued (Some r) a x l b b' = (g : ℕ) → T (may_tell_of b' (Asked x l g) r)
+abbrev pub Pursued : Option Answer → Option Aims → (x l : ℕ) → Board → Board → Type 0
+Pursued None o x l b b' = (costs b (goal b x l) ≤ 5056) × (costs b' (goal b' x l) + 1024 ≤ costs b (goal b x l)) × IsSomeAnd o (λ a. AimsAt b' a x l)
+Pursued (Some r) o x l b b' = (g : ℕ) → T (may_tell_of b' (Asked x l g) r)
 
 -- What a tick's work leaves: what is told may be told, the board is in time after it, and the invariant holds after the tick.
 abbrev pub Worked : Option (ℕ × Answer) → Keeper → Board → Type 0

@@ -9,6 +9,7 @@ pub mod Kept
 pub mod Least
 pub mod Mirrors
 pub mod Moves
+pub mod NotDone
 pub mod Promise
 pub mod Refused
 pub mod Rota

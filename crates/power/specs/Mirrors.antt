@@ -1,27 +1,34 @@
 -- What the keeper's own tables say of a board.
 -- Assumes nothing.
 use Rattle.std.specs.Prelude.{◌≡◌, ℕ, ◌≤◌, slice_index_or}
+use Rattle.std.specs.Coded.{Unit-prop, Coded-set, coded_ℕ}
 use Rattle.power.specs.Board.{Board, Part, Off, Rising, On, Wish, None', Asked, Granted}
 use Rattle.power.specs.declared.state.PartState.{PartState}
 use Rattle.power.specs.declared.state.PartState.TheVariants as state
 use Rattle.power.specs.declared.state.Wanted.{Wanted}
 use Rattle.power.specs.declared.state.Wanted.TheVariants as wanted
+use Rattle.power.specs.declared.state.Tried.{Tried}
 use Rattle.power.specs.declared.state.Mirror.{Mirror}
 use Rattle.power.specs.declared.state.Wishes.{Wishes}
 use Rattle.power.specs.declared.state.Driver.{Driver}
 
-abbrev pub part_of : PartState → Part
+abbrev pub part_of : {T : Type 0} → PartState T → Part
 part_of state.Off = Off
 part_of (state.Rising n) = Rising
 part_of (state.On l) = On l.n
 
 -- how often a part was tried is known, and matters, while it rises
-abbrev pub TriedIs : PartState → ℕ → Type 0
+abbrev pub TriedIs : PartState Tried → ℕ → Type 0
 TriedIs state.Off t = Unit {0}
 TriedIs (state.Rising n) t = t ≡ n.n
 TriedIs (state.On l) t = Unit {0}
 
-abbrev pub state_at : Mirror → ℕ → PartState
+pub TriedIs-prop : (s : PartState Tried) (t : ℕ) → IsProp (TriedIs s t)
+TriedIs-prop state.Off t = Unit-prop
+TriedIs-prop (state.Rising n) t = Coded-set coded_ℕ t n.n
+TriedIs-prop (state.On l) t = Unit-prop
+
+abbrev pub state_at : Mirror → ℕ → PartState Tried
 state_at m x = slice_index_or m.states x state.Off
 
 -- the mirror shows the board's parts
@@ -39,19 +46,19 @@ pub record Knows (d : Driver) (b : Board) : Type 0 where
   pub parts : Shows d.mirror b
   pub left : d.left ≤ b.left
 
-abbrev pub wanted_by : Wishes → ℕ → Wanted
+abbrev pub wanted_by : Wishes → ℕ → Wanted Unit
 wanted_by ws u = slice_index_or ws.wanted u wanted.Nothing
 
-abbrev pub Says : Wanted → Wish → Type 0
+abbrev pub Says : Wanted Unit → Wish → Type 0
 Says wanted.Nothing v = v ≡ None'
-Says (wanted.Asked x l) v = (a : ℕ) × (v ≡ Asked x.n l.n a)
-Says (wanted.Granted x l) v = v ≡ Granted x.n l.n
+Says (wanted.Asked r t) v = (a : ℕ) × (v ≡ Asked r.part.n r.level.n a)
+Says (wanted.Granted r) v = v ≡ Granted r.part.n r.level.n
 
 -- the wishes are the board's, but for their ages
 abbrev pub SaysAll : Wishes → Board → Type 0
 SaysAll ws b = (u : ℕ) → Says (wanted_by ws u) (b.wish u)
 
-abbrev pub Waits : Wanted → Type 0
+abbrev pub Waits : Wanted Unit → Type 0
 Waits wanted.Nothing = ⊥
-Waits (wanted.Asked x l) = Unit {0}
-Waits (wanted.Granted x l) = ⊥
+Waits (wanted.Asked r t) = Unit {0}
+Waits (wanted.Granted r) = ⊥

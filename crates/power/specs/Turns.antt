@@ -1,6 +1,6 @@
 -- Whose turn it is, and what is aimed at for them.
 -- Assumes nothing.
-use Rattle.std.specs.Prelude.{◌≡◌, ℕ, T, ◌≢◌}
+use Rattle.std.specs.Prelude.{◌≡◌, ℕ, T, ◌≢◌, Some, IfSome}
 use Rattle.power.specs.declared.types.Aims.{Aims}
 use Rattle.power.specs.declared.state.Turn.{Turn}
 use Rattle.power.specs.Board.{Board, Wish, None', Asked, Granted, can_be, granted, and_also}
@@ -24,4 +24,4 @@ AimsFor b a (Granted x l) = ⊥
 -- u is done with: the turn moves on if it was u's, and what is aimed at is kept only for another
 pub record DoneWith (u : ℕ) (t t' : Turn) : Type 0 where
   pub user : t'.user.n ≡ moved_on u t.user.n
-  pub aims : T t'.aiming → T t.aiming × (t.user.n ≢ u) × (t'.aims ≡ t.aims)
+  pub aims : IfSome t'.aims (λ a. (t.user.n ≢ u) × (t.aims ≡ Some a))

@@ -5,35 +5,40 @@ ghost use Rattle.power.specs.Tables.{at};
 ghost use Rattle.power.specs.Found.{Finds, FindsAims};
 
 use crate::Parts;
-use crate::least::least;
+use crate::datasheet::DataSheet;
 use crate::types::{Aims, CantBe, Level, Levels, PartId};
 
-// The least for what is wanted, and x at l too.
-fn least_with<P: Parts>(b: &P, mut want: Levels, x: PartId, l: Level) -> Result<Levels, CantBe>
-    requires few { (P.board b.now).parts ≤ 64 }
-    requires plan { T (good_plan (P.board b.now)) }
-    ensures { Finds (P.board b.now) (and_also (at want) x.n l.n) result }
-{
-    want.also(x, l.n);
-    least(b, &want)
+impl<P: Parts> DataSheet<'_, P> {
+    // The least for what is wanted, and x at l too.
+    fn least_with(&self, mut want: Levels, x: PartId, l: Level) -> Result<Levels, CantBe>
+        ensures { Finds (P.board self.now.board.now) (and_also (at want) x.n l.n) result }
+    {
+        want.also(x, l.n);
+        self.least(&want)
+    }
+
+    // The least for x at l alone.
+    fn least_alone(&self, x: PartId, l: Level) -> Result<Levels, CantBe>
+        ensures { Finds (P.board self.now.board.now) (and_also (λ (z : ℕ). 0) x.n l.n) result }
+    {
+        self.least_with(Levels::new(), x, l)
+    }
+
+    // What to aim at for x at l, if it can be with what is granted.
+    fn aims(&self, granted: Levels, x: PartId, l: Level) -> Result<Aims, CantBe>
+        ensures { FindsAims (P.board self.now.board.now) (at granted) x.n l.n result }
+    {
+        let goal = self.least_alone(x, l)?;
+        let ceiling = self.least_with(granted, x, l)?;
+        Ok(Aims { ceiling, goal })
+    }
 }
 
-// The least for x at l alone.
-fn least_alone<P: Parts>(b: &P, x: PartId, l: Level) -> Result<Levels, CantBe>
-    requires few { (P.board b.now).parts ≤ 64 }
-    requires plan { T (good_plan (P.board b.now)) }
-    ensures { Finds (P.board b.now) (and_also (λ (z : ℕ). 0) x.n l.n) result }
-{
-    least_with(b, Levels::new(), x, l)
-}
-
-// What to aim at for x at l, if it can be with what is granted.
+// The same, of a board.
 pub fn aims<P: Parts>(b: &P, granted: Levels, x: PartId, l: Level) -> Result<Aims, CantBe>
     requires few { (P.board b.now).parts ≤ 64 }
     requires plan { T (good_plan (P.board b.now)) }
     ensures { FindsAims (P.board b.now) (at granted) x.n l.n result }
 {
-    let goal = least_alone(b, x, l)?;
-    let ceiling = least_with(b, granted, x, l)?;
-    Ok(Aims { ceiling, goal })
+    DataSheet { board: b }.aims(granted, x, l)
 }

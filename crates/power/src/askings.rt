@@ -1,73 +1,80 @@
-// What is asked of the board: one function for each thing, that changes the board and what is known of it together.
+// What is asked of the board: one method for each thing, that changes the board and what is known of it together. One that takes what to ask as a
+// closure would be no plainer: the four require and do another thing each, and share but the count.
 // `may` is what the data sheet asks; `can` is the budget of this tick.
 ghost use Rattle.std.specs.Prelude.{◌≡◌, ◌+◌, ◌<◌};
 ghost use Rattle.power.specs.Board.{MayRaise, MayLower, MayLevel, Tries, raised, lowered, levelled};
-ghost use Rattle.power.specs.Mirrors.{Knows, state_at};
+ghost use Rattle.power.specs.Mirrors.{state_at};
 ghost use Rattle.power.specs.declared.state.PartState.TheVariants.{Rising};
 
 use crate::Parts;
-use crate::state::{Driver, PartState, Tried};
+use crate::drive::Drive;
+use crate::state::{PartState, Tried};
 use crate::types::{Level, PartId};
 
-impl Driver {
-    pub(crate) fn lower_part<P: Parts>(&mut self, b: &mut P, x: PartId)
-        requires may { MayLower (P.board b.old) x.n }
-        requires can { 0 < self.old.left }
-        requires knows { Knows self.old (P.board b.old) }
-        ensures does { P.board b.new ≡ lowered x.n (P.board b.old) }
-        ensures spends { self.new.left + 1 ≡ self.old.left }
-        ensures knows { Knows self.new (P.board b.new) }
+// Board and driver are taken before the first of them changes: what is known has to be so again only when both have.
+impl<P: Parts> Drive<'_, P> {
+    pub(crate) fn lower_part(&mut self, x: PartId)
+        requires may { MayLower (P.board self.old.board.now) x.n }
+        requires can { 0 < self.old.driver.now.left }
+        ensures does { P.board self.new.board.now ≡ lowered x.n (P.board self.old.board.now) }
+        ensures spends { self.new.driver.now.left + 1 ≡ self.old.driver.now.left }
+        ensures same { (self.new.board.ghost_name ≡ self.old.board.ghost_name) × (self.new.driver.ghost_name ≡ self.old.driver.ghost_name) }
     {
-        self.left -= 1;
-        b.lower(x.n);
-        self.mirror.put(x, PartState::Off);
+        let driver = &mut *self.driver;
+        let board = &mut *self.board;
+        driver.left -= 1;
+        board.lower(x.n);
+        driver.mirror.put(x, PartState::Off);
     }
 
-    pub(crate) fn raise_part<P: Parts>(&mut self, b: &mut P, x: PartId)
-        requires may { MayRaise (P.board b.old) x.n }
-        requires can { 0 < self.old.left }
-        requires knows { Knows self.old (P.board b.old) }
-        ensures does { P.board b.new ≡ raised x.n (P.board b.old) }
-        ensures spends { self.new.left + 1 ≡ self.old.left }
-        ensures knows { Knows self.new (P.board b.new) }
+    pub(crate) fn raise_part(&mut self, x: PartId)
+        requires may { MayRaise (P.board self.old.board.now) x.n }
+        requires can { 0 < self.old.driver.now.left }
+        ensures does { P.board self.new.board.now ≡ raised x.n (P.board self.old.board.now) }
+        ensures spends { self.new.driver.now.left + 1 ≡ self.old.driver.now.left }
+        ensures same { (self.new.board.ghost_name ≡ self.old.board.ghost_name) × (self.new.driver.ghost_name ≡ self.old.driver.ghost_name) }
     {
-        self.left -= 1;
-        b.raise(x.n);
-        self.mirror.put(x, PartState::Rising(Tried { n: 0 }));
+        let driver = &mut *self.driver;
+        let board = &mut *self.board;
+        driver.left -= 1;
+        board.raise(x.n);
+        driver.mirror.put(x, PartState::Rising(Tried { n: 0 }));
     }
 
-    pub(crate) fn level_part<P: Parts>(&mut self, b: &mut P, x: PartId, v: Level)
-        requires may { MayLevel (P.board b.old) x.n v.n }
-        requires can { 0 < self.old.left }
-        requires knows { Knows self.old (P.board b.old) }
-        ensures does { P.board b.new ≡ levelled x.n v.n (P.board b.old) }
-        ensures spends { self.new.left + 1 ≡ self.old.left }
-        ensures knows { Knows self.new (P.board b.new) }
+    pub(crate) fn level_part(&mut self, x: PartId, v: Level)
+        requires may { MayLevel (P.board self.old.board.now) x.n v.n }
+        requires can { 0 < self.old.driver.now.left }
+        ensures does { P.board self.new.board.now ≡ levelled x.n v.n (P.board self.old.board.now) }
+        ensures spends { self.new.driver.now.left + 1 ≡ self.old.driver.now.left }
+        ensures same { (self.new.board.ghost_name ≡ self.old.board.ghost_name) × (self.new.driver.ghost_name ≡ self.old.driver.ghost_name) }
     {
-        self.left -= 1;
-        b.level(x.n, v.n);
-        self.mirror.put(x, PartState::On(v));
+        let driver = &mut *self.driver;
+        let board = &mut *self.board;
+        driver.left -= 1;
+        board.level(x.n, v.n);
+        driver.mirror.put(x, PartState::On(v));
     }
 
     // Is a rising part good? Asked no more than 64 times.
-    pub(crate) fn try_part<P: Parts>(&mut self, b: &mut P, x: PartId, tried: Tried) -> bool
-        requires there { x.n < (P.board b.old).parts }
-        requires rises { Rising tried ≡ state_at self.old.mirror x.n }
+    pub(crate) fn try_part(&mut self, x: PartId, tried: Tried) -> bool
+        requires there { x.n < (P.board self.old.board.now).parts }
+        requires rises { Rising tried ≡ state_at self.old.driver.now.mirror x.n }
         requires few { tried.n < 64 }
-        requires can { 0 < self.old.left }
-        requires knows { Knows self.old (P.board b.old) }
-        ensures does { Tries (P.board b.old) x.n result (P.board b.new) }
-        ensures spends { self.new.left + 1 ≡ self.old.left }
-        ensures knows { Knows self.new (P.board b.new) }
+        requires can { 0 < self.old.driver.now.left }
+        ensures does { Tries (P.board self.old.board.now) x.n result (P.board self.new.board.now) }
+        ensures spends { self.new.driver.now.left + 1 ≡ self.old.driver.now.left }
+        ensures same { (self.new.board.ghost_name ≡ self.old.board.ghost_name) × (self.new.driver.ghost_name ≡ self.old.driver.ghost_name) }
     {
-        self.left -= 1;
-        let good = b.good(x.n);
-        if good {
-            self.mirror.put(x, PartState::On(Level { n: 1 }));
-        } else {
-            self.mirror
-                .put(x, PartState::Rising(Tried { n: tried.n + 1 }));
+        let driver = &mut *self.driver;
+        let board = &mut *self.board;
+        driver.left -= 1;
+        if board.good(x.n) {
+            driver.mirror.put(x, PartState::On(Level { n: 1 }));
+            return true;
         }
-        good
+        driver
+            .mirror
+            .put(x, PartState::Rising(Tried { n: tried.n + 1 }));
+        false
     }
 }

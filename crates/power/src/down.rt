@@ -1,61 +1,53 @@
 // The way down to a ceiling: the parts from the last to the first, so that no part loses what another still needs.
-ghost use Rattle.std.specs.Prelude.{◌+◌, ◌<◌, ◌≤◌};
+ghost use Rattle.std.specs.Prelude.{◌≡◌, ◌+◌, ◌<◌, ◌≤◌};
 ghost use Rattle.power.specs.Board.{level_of};
 ghost use Rattle.power.specs.Aim.{Fits, Covers};
 ghost use Rattle.power.specs.Tables.{at};
-ghost use Rattle.power.specs.Sound.{Sound};
 ghost use Rattle.power.specs.Walk.{Below, Down};
-ghost use Rattle.power.specs.Mirrors.{Knows};
 ghost use Rattle.power.specs.Moves.{CameDown, OrSpent};
 
 use crate::Parts;
-use crate::state::Driver;
+use crate::drive::Drive;
+use crate::state::Spent;
 use crate::types::{Level, Levels, PartId};
 
-impl Driver {
-    // One part, whose users are through. False: no asking is left.
-    pub(crate) fn lower_to<P: Parts>(&mut self, b: &mut P, x: PartId, ceiling: &Levels) -> bool
-        requires part { x.n < (P.board b.old).parts }
-        requires down { Down (P.board b.old) (at ceiling.now) (x.n + 1) }
-        requires knows { Knows self.old (P.board b.old) }
-        ensures came { CameDown (at ceiling.now) self.old.left (P.board b.old) self.new.left (P.board b.new) }
-        ensures ends { OrSpent result self.new.left (level_of ((P.board b.new).part x.n) ≤ at ceiling.now x.n) }
-        ensures down { Down (P.board b.new) (at ceiling.now) (x.n + 1) }
-        ensures knows { Knows self.new (P.board b.new) }
+impl<P: Parts> Drive<'_, P> {
+    // One part, whose users are through.
+    pub(crate) fn lower_to(&mut self, x: PartId, ceiling: &Levels) -> Result<(), Spent>
+        requires part { x.n < (P.board self.old.board.now).parts }
+        requires down { Down (P.board self.old.board.now) (at ceiling.now) (x.n + 1) }
+        ensures came { CameDown (at ceiling.now) self.old.driver.now.left (P.board self.old.board.now) self.new.driver.now.left (P.board self.new.board.now) }
+        ensures ends { OrSpent result self.new.driver.now.left (level_of ((P.board self.new.board.now).part x.n) ≤ at ceiling.now x.n) }
+        ensures down { Down (P.board self.new.board.now) (at ceiling.now) (x.n + 1) }
+        ensures same { (self.new.board.ghost_name ≡ self.old.board.ghost_name) × (self.new.driver.ghost_name ≡ self.old.driver.ghost_name) }
     {
         let t = ceiling.get(x);
-        while self.left > 0 {
-            let v = self.mirror.level(x);
+        while self.driver.left > 0 {
+            let v = self.driver.mirror.level(x);
             if v <= t {
-                return true;
+                return Ok(());
             }
             if t == 0 {
-                self.lower_part(b, x);
+                self.lower_part(x);
             } else {
-                self.level_part(b, x, Level { n: v - 1 });
+                self.level_part(x, Level { n: v - 1 });
             }
         }
-        false
+        Err(Spent)
     }
 
-    // All parts. False: no asking is left.
-    pub(crate) fn come_down<P: Parts>(&mut self, b: &mut P, ceiling: &Levels) -> bool
-        requires few { (P.board b.old).parts ≤ 64 }
-        requires sound { Sound (P.board b.old) }
-        requires fits { Fits (P.board b.old) (at ceiling.now) }
-        requires covers { Covers (P.board b.old) (at ceiling.now) }
-        requires knows { Knows self.old (P.board b.old) }
-        ensures came { CameDown (at ceiling.now) self.old.left (P.board b.old) self.new.left (P.board b.new) }
-        ensures ends { OrSpent result self.new.left (Below (P.board b.new) (at ceiling.now)) }
-        ensures sound { Sound (P.board b.new) }
-        ensures knows { Knows self.new (P.board b.new) }
+    // All parts.
+    pub(crate) fn come_down(&mut self, ceiling: &Levels) -> Result<(), Spent>
+        requires fits { Fits (P.board self.old.board.now) (at ceiling.now) }
+        requires covers { Covers (P.board self.old.board.now) (at ceiling.now) }
+        ensures came { CameDown (at ceiling.now) self.old.driver.now.left (P.board self.old.board.now) self.new.driver.now.left (P.board self.new.board.now) }
+        ensures ends { OrSpent result self.new.driver.now.left (Below (P.board self.new.board.now) (at ceiling.now)) }
+        ensures same { (self.new.board.ghost_name ≡ self.old.board.ghost_name) × (self.new.driver.ghost_name ≡ self.old.driver.ghost_name) }
     {
-        let n = b.parts();
+        let n = self.board.parts();
         for x in (0..n).rev() {
-            if !self.lower_to(b, PartId { n: x }, ceiling) {
-                return false;
-            }
+            self.lower_to(PartId { n: x }, ceiling)?;
         }
-        true
+        Ok(())
     }
 }

@@ -4,7 +4,7 @@ ghost use Rattle.power.specs.Board.{Board, AtStart, told, ticked};
 ghost use Rattle.power.specs.Mirrors.{Knows};
 
 use crate::Answer;
-use crate::refusal::NOT_GOOD;
+use crate::not_done::NotDone;
 use crate::state::{Driver, Mirror};
 
 // How often the board may be asked in a tick.
@@ -25,7 +25,7 @@ impl Driver {
         ensures { (b : Board) (u : ℕ) → Knows self.old b → Knows self.new (told u a b) }
     {
         if let Answer::No(k) = a {
-            if k == NOT_GOOD {
+            if k == u32::from(NotDone::NotGood) {
                 self.mirror.anew();
             }
         }

@@ -17,9 +17,8 @@ impl Drop for Held<'_> {
     fn drop(self)
         ensures { (b : Board) → Kept self.entry.keeper.now b → Kept self.exit.0.now (called (Give self.entry.user) b) }
     {
-        let user = self.user;
-        let _no = self.keeper.give(user);
-        let Held { keeper: _, user: _ } = self;
+        let Held { keeper, user } = self;
+        let _no = keeper.give(user);
     }
 }
 
@@ -42,12 +41,10 @@ pub fn read_with(
     l: u32,
     reading: Result<u32, Refusal>,
 ) -> Result<u32, Refusal>
-    requires few { k.old.parts ≤ 64 }
     ensures kept { (b : Board) → Kept k.old b → T (is_none (b.wish u)) → Kept k.new (called (Give u) (called (Want u x l) b)) }
     ensures nothing { (b : Board) → T (is_none (b.wish u)) → T (is_none ((called (Give u) (called (Want u x l) b)).wish u)) }
 {
     k.want(u, x, l)?;
     let _held = Held::of(k, u);
-    let value = reading?;
-    Ok(value)
+    reading
 }

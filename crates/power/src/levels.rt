@@ -29,8 +29,6 @@ impl Levels {
     pub fn also(&mut self, x: PartId, l: u32)
         ensures { (z : ℕ) → at self.new z ≡ and_also (at self.old) x.n l z }
     {
-        if self.get(x) < l {
-            self.put(x, l);
-        }
+        self.put(x, self.get(x).max(l));
     }
 }

@@ -8,15 +8,20 @@ ghost use Rattle.power.specs.Kept.{Kept, Worked};
 
 pub mod aims;
 mod askings;
+pub mod counts;
 mod course;
+mod datasheet;
 mod down;
+mod drive;
 mod driver;
 mod grants;
 pub mod guard;
 mod idle;
+mod knowledge;
 pub mod least;
 pub mod levels;
 mod mirror;
+pub mod not_done;
 pub mod refusal;
 mod rota;
 mod serve;
@@ -31,7 +36,7 @@ mod users;
 mod wishes;
 
 use crate::driver::ASKINGS;
-use crate::refusal::number;
+pub use crate::knowledge::Keeper;
 use crate::state::{Driver, Turn, Wishes};
 
 // Users 0 to 31, parts 0 to 63, levels 1 to 15.
@@ -119,17 +124,6 @@ pub trait World: Parts {
         ensures { Self.board self.new ≡ ticked (Self.board self.old) };
 }
 
-// What the keeper knows, at most 65,536 bytes.
-#[derive(Drop)]
-pub struct Keeper {
-    pub parts: u32,
-    driver: Driver,
-    wishes: Wishes,
-    turn: Turn,
-    // for how many ticks it has been quiet
-    idle: u32,
-}
-
 impl Keeper {
     // at the start: all parts are off, and nobody wants anything
     pub fn new<P: Parts>(b: &P) -> Keeper
@@ -145,15 +139,15 @@ impl Keeper {
         }
     }
 
-    // a call; 0, or why it's turned away
+    // a call; 0, or why it's turned away, as a number: the world is told one
     pub fn call(&mut self, c: Call) -> u32
-        requires few { self.old.parts ≤ 64 }
         ensures { (b : Board) → Kept self.old b → (result ≡ why c b) × Kept self.new (called c b) }
     {
-        match c {
-            Call::Want(u, x, l) => number(self.want(u, x, l)),
-            Call::Give(u) => number(self.give(u)),
-        }
+        let taken = match c {
+            Call::Want(u, x, l) => self.want(u, x, l),
+            Call::Give(u) => self.give(u),
+        };
+        taken.err().map_or(0, u32::from)
     }
 
     // a tick's work; one user may be told something

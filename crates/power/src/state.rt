@@ -3,40 +3,47 @@ ghost use Rattle.std.specs.Prelude.{◌≡◌, ◌≤◌, length};
 
 use crate::types::{Aims, Level, PartId, UserId};
 
+// What a user asks for: a part, at a level.
+#[derive(Clone, Copy, Debug, PartialEq, Eq)]
+pub struct Request {
+    pub part: PartId,
+    pub level: Level,
+}
+
 // How often a rising part was found not to be good, up to 64.
-#[derive(Clone, Copy)]
+#[derive(Clone, Copy, Debug, PartialEq, Eq)]
 pub struct Tried {
     pub n: u32,
     ghost most: { n ≤ 64 },
 }
 
-// What a part is, as far as the keeper knows.
-#[derive(Clone, Copy)]
-pub enum PartState {
+// What a part is: off, rising, with what is known of that, or on at a level.
+#[derive(Clone, Copy, Debug, PartialEq, Eq)]
+pub enum PartState<T> {
     Off,
-    Rising(Tried),
+    Rising(T),
     On(Level),
 }
 
-// What a user wants. How long ago it was asked is the board's, not the keeper's.
-#[derive(Clone, Copy)]
-pub enum Wanted {
+// What a user wants: nothing; what they asked for, with what is known of how long ago; that, granted.
+#[derive(Clone, Copy, Debug, PartialEq, Eq)]
+pub enum Wanted<A> {
     Nothing,
-    Asked(PartId, Level),
-    Granted(PartId, Level),
+    Asked(Request, A),
+    Granted(Request),
 }
 
-// The state of each part: the board's own can't be read.
+// The state of each part, as far as the keeper knows: the board's own can't be read.
 #[derive(Drop)]
 pub struct Mirror {
-    pub states: [PartState; 64],
+    pub states: [PartState<Tried>; 64],
     ghost long: { length states ≡ 64 },
 }
 
-// What each user wants.
+// What each user wants. How long ago it was asked is the board's, not the keeper's.
 #[derive(Drop)]
 pub struct Wishes {
-    pub wanted: [Wanted; 32],
+    pub wanted: [Wanted<()>; 32],
     ghost long: { length wanted ≡ 32 },
 }
 
@@ -51,14 +58,26 @@ pub struct Driver {
 #[derive(Drop)]
 pub struct Turn {
     pub user: UserId,
-    pub aiming: bool,
-    pub aims: Aims,
+    pub aims: Option<Aims>,
 }
 
-// How far the way up came: all the way; as far as the askings of this tick went; or to a part that was found not to be good 64 times.
-#[derive(Clone, Copy)]
-pub enum Progress {
-    Through,
+// No asking is left in this tick.
+#[derive(Clone, Copy, Debug, PartialEq, Eq)]
+pub(crate) struct Spent;
+
+// Why a way ended before it was through: no asking is left in this tick, or a part was found not to be good 64 times.
+#[derive(Clone, Copy, Debug, PartialEq, Eq)]
+pub(crate) enum Halt {
     Spent,
     Stuck,
+}
+
+impl From<Spent> for Halt {
+    ghost use Rattle.power.specs.declared.state.Halt.TheVariants.{Spent};
+
+    ghost from_gives = { λ _ h. h ≡ Spent };
+
+    fn from(_e: Spent) -> Halt {
+        Halt::Spent
+    }
 }

@@ -1,5 +1,5 @@
 // Whose turn it is: taken by one who waits, and over when they were told or gave back.
-ghost use Rattle.std.specs.Prelude.{◌≡◌, ◌≤◌, false, not, T, MatchResult};
+ghost use Rattle.std.specs.Prelude.{◌≡◌, ◌≤◌, not, T, None, IfSome, IsSomeAnd, MatchResult};
 ghost use Rattle.power.specs.Board.{can_be, granted, and_also};
 ghost use Rattle.power.specs.Sound.{Sound};
 ghost use Rattle.power.specs.Mirrors.{SaysAll};
@@ -8,60 +8,49 @@ ghost use Rattle.power.specs.Turns.{AimsAt, DoneWith};
 use crate::Parts;
 use crate::aims::aims;
 use crate::rota::after;
-use crate::state::{Turn, Wishes};
-use crate::types::{Aims, CantBe, Level, Levels, PartId, UserId};
+use crate::state::{Request, Turn, Wishes};
+use crate::types::{CantBe, UserId};
 
 impl Turn {
     pub(crate) fn new() -> Turn
-        ensures { result.aiming ≡ false }
+        ensures { result.aims ≡ None }
     {
         Turn {
             user: UserId { n: 0 },
-            aiming: false,
-            aims: Aims {
-                ceiling: Levels::new(),
-                goal: Levels::new(),
-            },
+            aims: None,
         }
     }
 
-    // It is the turn of u, who wants x at l. What to aim at is made if it wasn't yet.
+    // It is the turn of u, who asked for r. What to aim at is made if it wasn't yet.
     pub(crate) fn take<P: Parts>(
         &mut self,
         b: &P,
         wishes: &Wishes,
         u: UserId,
-        x: PartId,
-        l: Level,
+        r: Request,
     ) -> Result<(), CantBe>
         requires few { (P.board b.now).parts ≤ 64 }
         requires sound { Sound (P.board b.now) }
         requires says { SaysAll wishes.now (P.board b.now) }
-        requires kept { T self.old.aiming → AimsAt (P.board b.now) self.old.aims x.n l.n }
+        requires kept { IfSome self.old.aims (λ a. AimsAt (P.board b.now) a r.part.n r.level.n) }
         ensures user { self.new.user ≡ u }
-        ensures aims { MatchResult result (λ _. AimsAt (P.board b.now) self.new.aims x.n l.n) (λ _. T (not (can_be (P.board b.now) (and_also (granted (P.board b.now)) x.n l.n)))) }
+        ensures aims { MatchResult result (λ _. IsSomeAnd self.new.aims (λ a. AimsAt (P.board b.now) a r.part.n r.level.n)) (λ _. T (not (can_be (P.board b.now) (and_also (granted (P.board b.now)) r.part.n r.level.n)))) }
     {
         self.user = u;
-        if self.aiming {
-            return Ok(());
+        if self.aims.is_none() {
+            let found = aims(b, wishes.granted(), r.part, r.level)?;
+            self.aims = Some(found);
         }
-        match aims(b, wishes.granted(), x, l) {
-            Ok(found) => {
-                self.aims = found;
-                self.aiming = true;
-                Ok(())
-            }
-            Err(e) => Err(e),
-        }
+        Ok(())
     }
 
     // u is done with: told, or gave back.
     pub(crate) fn over(&mut self, u: UserId)
         ensures { DoneWith u.n self.old self.new }
     {
-        if self.user.n == u.n {
+        if self.user == u {
             self.user = after(u);
-            self.aiming = false;
+            self.aims = None;
         }
     }
 }

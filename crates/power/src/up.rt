@@ -1,77 +1,62 @@
 // The way up to a goal below the ceiling: the parts from the first to the last, so that each has what it needs.
-ghost use Rattle.std.specs.Prelude.{◌<◌, ◌≤◌};
+ghost use Rattle.std.specs.Prelude.{◌≡◌, ◌<◌, ◌≤◌};
 ghost use Rattle.power.specs.Tables.{at};
-ghost use Rattle.power.specs.Sound.{Sound};
 ghost use Rattle.power.specs.Walk.{Up};
-ghost use Rattle.power.specs.Mirrors.{Knows};
 ghost use Rattle.power.specs.Moves.{CameNearer, PartEnds, AllEnd};
 
 use crate::Parts;
-use crate::state::{Driver, PartState, Progress};
-use crate::types::{Level, Levels, PartId};
+use crate::drive::Drive;
+use crate::state::{Halt, PartState};
+use crate::types::{Aims, Level, PartId};
 
 // A rising part is asked so often whether it's good.
 const TRIES: u32 = 64;
 
-impl Driver {
+impl<P: Parts> Drive<'_, P> {
     // One part, whose needs are through.
-    pub(crate) fn raise_to<P: Parts>(
-        &mut self,
-        b: &mut P,
-        x: PartId,
-        ceiling: &Levels,
-        goal: &Levels,
-    ) -> Progress
-        requires part { x.n < (P.board b.old).parts }
-        requires up { Up (P.board b.old) (at ceiling.now) (at goal.now) x.n }
-        requires knows { Knows self.old (P.board b.old) }
-        ensures came { CameNearer (at goal.now) self.old.left (P.board b.old) self.new.left (P.board b.new) }
-        ensures ends { PartEnds result (P.board b.new) (at goal.now) x.n self.new.left }
-        ensures up { Up (P.board b.new) (at ceiling.now) (at goal.now) x.n }
-        ensures knows { Knows self.new (P.board b.new) }
+    pub(crate) fn raise_to(&mut self, x: PartId, aims: &Aims) -> Result<(), Halt>
+        requires part { x.n < (P.board self.old.board.now).parts }
+        requires up { Up (P.board self.old.board.now) (at aims.now.ceiling) (at aims.now.goal) x.n }
+        ensures came { CameNearer (at aims.now.goal) self.old.driver.now.left (P.board self.old.board.now) self.new.driver.now.left (P.board self.new.board.now) }
+        ensures ends { PartEnds result (P.board self.new.board.now) (at aims.now.goal) x.n self.new.driver.now.left }
+        ensures up { Up (P.board self.new.board.now) (at aims.now.ceiling) (at aims.now.goal) x.n }
+        ensures same { (self.new.board.ghost_name ≡ self.old.board.ghost_name) × (self.new.driver.ghost_name ≡ self.old.driver.ghost_name) }
     {
-        let l = goal.get(x);
+        let l = aims.goal.get(x);
         if l == 0 {
-            return Progress::Through;
+            return Ok(());
         }
-        while self.left > 0 {
-            match self.mirror.get(x) {
-                PartState::Off => self.raise_part(b, x),
-                PartState::Rising(n) => {
-                    if n.n == TRIES {
-                        return Progress::Stuck;
+        while self.driver.left > 0 {
+            match self.driver.mirror.get(x) {
+                PartState::Off => self.raise_part(x),
+                PartState::Rising(tried) => {
+                    if tried.n == TRIES {
+                        return Err(Halt::Stuck);
                     }
-                    let _good = self.try_part(b, x, n);
+                    let _good = self.try_part(x, tried);
                 }
                 PartState::On(v) => {
                     if v.n >= l {
-                        return Progress::Through;
+                        return Ok(());
                     }
-                    self.level_part(b, x, Level { n: v.n + 1 });
+                    self.level_part(x, Level { n: v.n + 1 });
                 }
             }
         }
-        Progress::Spent
+        Err(Halt::Spent)
     }
 
     // All parts.
-    pub(crate) fn go_up<P: Parts>(&mut self, b: &mut P, ceiling: &Levels, goal: &Levels) -> Progress
-        requires few { (P.board b.old).parts ≤ 64 }
-        requires up { Up (P.board b.old) (at ceiling.now) (at goal.now) 0 }
-        requires knows { Knows self.old (P.board b.old) }
-        ensures came { CameNearer (at goal.now) self.old.left (P.board b.old) self.new.left (P.board b.new) }
-        ensures ends { AllEnd result (P.board b.new) (at goal.now) self.new.left }
-        ensures sound { Sound (P.board b.new) }
-        ensures knows { Knows self.new (P.board b.new) }
+    pub(crate) fn go_up(&mut self, aims: &Aims) -> Result<(), Halt>
+        requires up { Up (P.board self.old.board.now) (at aims.now.ceiling) (at aims.now.goal) 0 }
+        ensures came { CameNearer (at aims.now.goal) self.old.driver.now.left (P.board self.old.board.now) self.new.driver.now.left (P.board self.new.board.now) }
+        ensures ends { AllEnd result (P.board self.new.board.now) (at aims.now.goal) self.new.driver.now.left }
+        ensures same { (self.new.board.ghost_name ≡ self.old.board.ghost_name) × (self.new.driver.ghost_name ≡ self.old.driver.ghost_name) }
     {
-        let n = b.parts();
+        let n = self.board.parts();
         for x in 0..n {
-            match self.raise_to(b, PartId { n: x }, ceiling, goal) {
-                Progress::Through => {}
-                Progress::Spent => return Progress::Spent,
-                Progress::Stuck => return Progress::Stuck,
-            }
+            self.raise_to(PartId { n: x }, aims)?;
         }
-        Progress::Through
+        Ok(())
     }
 }

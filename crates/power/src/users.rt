@@ -7,22 +7,23 @@ ghost use Rattle.power.specs.declared.Call.TheVariants.{Want, Give};
 
 use crate::Keeper;
 use crate::refusal::Refusal;
-use crate::state::Wanted;
+use crate::state::{Request, Wanted};
 use crate::types::{Level, PartId, UserId};
 
 impl Keeper {
     pub fn want(&mut self, u: u32, x: u32, l: u32) -> Result<(), Refusal>
-        requires few { self.old.parts ≤ 64 }
         ensures { (b : Board) → Kept self.old b → (number_of result ≡ why (Want u x l) b) × Kept self.new (called (Want u x l) b) }
     {
-        if u >= 32 || x >= self.parts || l == 0 || l > 15 {
+        let user = UserId::try_from(u)?;
+        let part = PartId::try_from(x)?;
+        if part.n >= self.parts {
             return Err(Refusal::NoSuch);
         }
-        let user = UserId { n: u };
+        let level = Level::try_from(l)?;
         let Wanted::Nothing = self.wishes.get(user) else {
             return Err(Refusal::Already);
         };
-        self.wishes.ask(user, PartId { n: x }, Level { n: l });
+        self.wishes.ask(user, Request { part, level });
         self.idle = 0;
         Ok(())
     }
@@ -30,10 +31,7 @@ impl Keeper {
     pub fn give(&mut self, u: u32) -> Result<(), Refusal>
         ensures { (b : Board) → Kept self.old b → (number_of result ≡ why (Give u) b) × Kept self.new (called (Give u) b) }
     {
-        if u >= 32 {
-            return Err(Refusal::NoSuch);
-        }
-        let user = UserId { n: u };
+        let user = UserId::try_from(u)?;
         if let Wanted::Nothing = self.wishes.get(user) {
             return Err(Refusal::Nothing);
         }

@@ -6,8 +6,8 @@ ghost use Rattle.power.specs.Mirrors.{wanted_by, SaysAll};
 ghost use Rattle.power.specs.declared.state.Wanted.TheVariants.{Nothing, Asked};
 
 use crate::Answer;
-use crate::state::{Wanted, Wishes};
-use crate::types::{Level, PartId, UserId};
+use crate::state::{Request, Wanted, Wishes};
+use crate::types::UserId;
 
 impl Wishes {
     pub(crate) fn new() -> Wishes
@@ -18,22 +18,22 @@ impl Wishes {
         }
     }
 
-    pub(crate) fn get(&self, u: UserId) -> Wanted
+    pub(crate) fn get(&self, u: UserId) -> Wanted<()>
         ensures { result ≡ wanted_by self.now u.n }
     {
         self.wanted[u.n as usize]
     }
 
-    pub(crate) fn put(&mut self, u: UserId, w: Wanted)
+    pub(crate) fn put(&mut self, u: UserId, w: Wanted<()>)
         ensures { self.new.wanted ≡ slice_set self.old.wanted u.n w }
     {
         self.wanted[u.n as usize] = w;
     }
 
-    pub(crate) fn ask(&mut self, u: UserId, x: PartId, l: Level)
-        ensures { (b : Board) → SaysAll self.old b → SaysAll self.new (with_wish u.n (AskedAt x.n l.n 0) b) }
+    pub(crate) fn ask(&mut self, u: UserId, r: Request)
+        ensures { (b : Board) → SaysAll self.old b → SaysAll self.new (with_wish u.n (AskedAt r.part.n r.level.n 0) b) }
     {
-        self.put(u, Wanted::Asked(x, l));
+        self.put(u, Wanted::Asked(r, ()));
     }
 
     pub(crate) fn take_back(&mut self, u: UserId)
@@ -43,12 +43,12 @@ impl Wishes {
     }
 
     // A user who waits is told.
-    pub(crate) fn answer(&mut self, u: UserId, x: PartId, l: Level, a: Answer)
-        requires waits { Asked x l ≡ wanted_by self.old u.n }
+    pub(crate) fn answer(&mut self, u: UserId, r: Request, a: Answer)
+        requires waits { Asked r tt ≡ wanted_by self.old u.n }
         ensures { (b : Board) → SaysAll self.old b → SaysAll self.new (told u.n a b) }
     {
         match a {
-            Answer::Done => self.put(u, Wanted::Granted(x, l)),
+            Answer::Done => self.put(u, Wanted::Granted(r)),
             Answer::No(_) => self.put(u, Wanted::Nothing),
         }
     }

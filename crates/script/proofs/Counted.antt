@@ -1,22 +1,26 @@
 -- Reading digits one by one gives what they are worth, also past the largest number that is held.
-use Rattle.std.proofs.Common.{◌≡◌, ℕ, ◌+◌, ◌-◌, ◌*◌, true, false, List, [], ◌∷◌, length, Some, None, sym, refl, ap, ◌∙◌, arith}
-use Rattle.std.proofs.lemmas.Bool.{cond-true, cond-false}
+use Rattle.std.proofs.Common.{◌≡◌, ℕ, ◌+◌, ◌-◌, ◌*◌, ◌&&◌, true, Bool, length, List, [], ◌∷◌, Some, None, sym, refl, ap, ◌∙◌, arith}
+use Rattle.std.proofs.lemmas.Bool.{cond-true}
+use Rattle.std.specs.Char.{is_ascii_digit}
+use Rattle.std.specs.List.{fold, list_all}
 use Rattle.std.specs.Str.{all_ascii_digits}
-use Rattle.script.specs.Text.{value_after, value_of, held, number_of}
+use Rattle.script.specs.Text.{value_after, held, number_of}
 
-held_step : (n d : ℕ) → held (held n * 10 + d) ≡ held (n * 10 + d)
-held_step n d = omega arith
+-- one digit more
+abbrev pub one_more : ℕ → ℕ → ℕ
+one_more n b = held (held (n * 10) + (b - 48))
 
--- what is held may take the place of what was read
-pub held_after : (n : ℕ) (bs : List ℕ) → held (value_after (held n) bs) ≡ held (value_after n bs)
-held_after n [] = omega arith
-held_after n (b ∷ bs) =
-    sym (held_after (held n * 10 + (b - 48)) bs) ∙ ap (λ (m : ℕ). held (value_after m bs)) (held_step n (b - 48)) ∙ held_after (n * 10 + (b - 48)) bs
+one_more_held : (n b : ℕ) → one_more (held n) b ≡ held (n * 10 + (b - 48))
+one_more_held n b = omega arith
 
-pub number_some : (w : List ℕ) (n : ℕ) → (length w ≡ 0 → ⊥) → all_ascii_digits w ≡ true → n ≡ held (value_of w) → Some n ≡ number_of w
-number_some [] n some d e = absurd (some refl)
-number_some (b ∷ bs) n some d e = ap Some e ∙ sym (cond-true (all_ascii_digits (b ∷ bs)) (Some (held (value_of (b ∷ bs)))) None d)
+held_fold : (n : ℕ) (bs : List ℕ) → fold one_more (held n) bs ≡ held (value_after n bs)
+held_fold n [] = refl
+held_fold n (b ∷ bs) = ap (λ (m : ℕ). fold one_more m bs) (one_more_held n b) ∙ held_fold (n * 10 + (b - 48)) bs
 
-pub number_none : (w : List ℕ) → all_ascii_digits w ≡ false → None ≡ number_of w
-number_none [] d = refl
-number_none (b ∷ bs) d = sym (cond-false (all_ascii_digits (b ∷ bs)) (Some (held (value_of (b ∷ bs)))) None d)
+digits_are : (bs : List ℕ) → all_ascii_digits bs ≡ list_all is_ascii_digit bs
+digits_are [] = refl
+digits_are (b ∷ bs) = ap (λ (r : Bool). is_ascii_digit b && r) (digits_are bs)
+
+pub number_some : (w : List ℕ) → (length w ≡ 0 → ⊥) → list_all is_ascii_digit w ≡ true → Some (fold one_more 0 w) ≡ number_of w
+number_some [] some d = absurd (some refl)
+number_some (b ∷ bs) some d = ap Some (held_fold 0 (b ∷ bs)) ∙ sym (cond-true (all_ascii_digits (b ∷ bs)) _ None (digits_are (b ∷ bs) ∙ d))

@@ -1,14 +1,14 @@
 -- Each form of a line is read xs what it means.
-use Rattle.std.proofs.Common.{◌≡◌, ℕ, ◌<◌, true, false, eqb, List, [], ◌∷◌, ◌++◌, length, Some, None, codes, Option, sym, refl, ap, ◌∙◌, ⊎_elim, append_assoc, append-nil, arith}
+use Rattle.std.proofs.Common.{◌≡◌, ℕ, true, false, eqb, List, [], ◌∷◌, ◌++◌, Some, None, codes, Option, sym, refl, ap, ◌∙◌, ⊎_elim, append_assoc, append-nil, arith}
 use Rattle.std.proofs.lemmas.Slice.Eq.{bytes_eq-Decides}
 use Rattle.std.proofs.lemmas.Bool.{cond-false, cases_Bool, ne_eqb}
 use Rattle.std.specs.List.{AllByRecursion as All}
 use Rattle.std.specs.Str.{bytes_eq}
+use Rattle.script.proofs.Listed.{other_first}
+use Rattle.script.proofs.Spaced.{ended_some}
 use Rattle.script.specs.Forms.{unwords, IsWord, Spells, Pairwise, NeedWords, SpellsNeed, need_before, needs_words, needs_part, part_words, ReadsBack}
-use Rattle.script.specs.Lines.{Written, after, levels, most, follow, needs, from_word, first_level, line_of, rest_of, first_of, user_line, with_number, only, slow_line, draws_line, part_line, part_with, gives, want, tick, bad, slow}
+use Rattle.script.specs.Lines.{Written, after, levels, most, follow, needs, from_word, first_level, line_of, user_line, with_number, only, slow_line, draws_line, part_line, part_with, gives, want, tick, bad, slow}
 use Rattle.script.specs.Text.{is_blank, ended, number_of, words_after, words_of}
-use Rattle.script.specs.declared.line.First.{First}
-use Rattle.script.specs.declared.line.First.TheVariants as first
 
 -- bytes without a blank go to the word before them
 words_in : (v w rest : List ℕ) → All (λ b. is_blank b ≡ false) w → words_after v (w ++ rest) ≡ words_after (v ++ w) rest
@@ -17,15 +17,11 @@ words_in v (b ∷ w) rest a =
     cond-false (is_blank b) (ended v (words_of (w ++ rest))) (words_after (v ++ b ∷ []) (w ++ rest)) a.0 ∙ words_in (v ++ b ∷ []) w rest a.1
     ∙ ap (λ (u : List ℕ). words_after u rest) (append_assoc v (b ∷ []) w)
 
-ended_word : (w : List ℕ) (ws : List (List ℕ)) → 0 < length w → ended w ws ≡ w ∷ ws
-ended_word [] ws h = absurd (omega arith)
-ended_word (b ∷ w) ws h = refl
-
 words_back : (ws : List (List ℕ)) → All IsWord ws → words_of (unwords ws) ≡ ws
 words_back [] a = refl
-words_back (w ∷ []) a = ap words_of (sym (append-nil w)) ∙ words_in [] w [] a.0.1 ∙ ended_word w [] a.0.0
+words_back (w ∷ []) a = ap words_of (sym (append-nil w)) ∙ words_in [] w [] a.0.1 ∙ ended_some w [] a.0.0
 words_back (w ∷ v ∷ ws) a =
-    words_in [] w (32 ∷ unwords (v ∷ ws)) a.0.1 ∙ ended_word w (words_of (unwords (v ∷ ws))) a.0.0 ∙ ap (λ (us : List (List ℕ)). w ∷ us) (words_back (v ∷ ws) a.1)
+    words_in [] w (32 ∷ unwords (v ∷ ws)) a.0.1 ∙ ended_some w (words_of (unwords (v ∷ ws))) a.0.0 ∙ ap (λ (us : List (List ℕ)). w ∷ us) (words_back (v ∷ ws) a.1)
 
 -- a number is no word that is none
 not_word : (w k : List ℕ) (n : ℕ) → Spells w n → number_of k ≡ None → bytes_eq w k ≡ false
@@ -93,21 +89,11 @@ part_back x (d ∷ ds) (m ∷ ms) ss ns q p =
     spelt (λ a. draws_line x (a ∷ []) (ds ++ needs_part ss)) d m q.0 ∙ draws_back x (m ∷ []) ds ms (needs_part ss) q.1 ∙ listed_back x (m ∷ ms) ss ns p
 
 -- a line that begins with a number is a user's
-user_first : (w : List ℕ) (u : ℕ) → Spells w u → first_of w ≡ first.User u
-user_first w u s =
-    let part = not_word w (codes "part") u s refl in
-    let run = not_word w (codes "run") u s refl in
-    let new = not_word w (codes "new") u s refl in
-    let tick = not_word w (codes "tick") u s refl in
-    let bad = not_word w (codes "bad") u s refl in
-    let slow = not_word w (codes "slow") u s refl in
-    let least = not_word w (codes "least") u s refl in
-    let gives = not_word w (codes "gives") u s refl in
-    let drawn = not_word w (codes "drawn") u s refl in
-    rw (part, run, new, tick, bad, slow, least, gives, drawn, s) refl
-
 user_back : (w : List ℕ) (u : ℕ) (ws : List (List ℕ)) → Spells w u → line_of (w ∷ ws) ≡ user_line u ws
-user_back w u ws s = ap (λ (f : First). rest_of f ws) (user_first w u s)
+user_back w u ws s =
+    let other = λ (k : List ℕ) (e : number_of k ≡ None). not_word w k u s e in
+    other_first w ws (other (codes "part") refl) (other (codes "run") refl) (other (codes "new") refl) (other (codes "tick") refl) (other (codes "bad") refl) (other (codes "slow") refl) (other (codes "least") refl) (other (codes "gives") refl) (other (codes "drawn") refl)
+    ∙ spelt (λ v. user_line v ws) w u s
 
 pub reads_back : ReadsBack
 reads_back =

@@ -1,24 +1,11 @@
 -- The last level holds for all that follow, and what no plan can hold is known.
-use Rattle.std.proofs.Common.{◌≡◌, ℕ, zero, suc, ◌+◌, ◌-◌, ◌<◌, ◌≤◌, Bool, true, false, leb, ◌⊎◌, List, [], ◌∷◌, ◌++◌, length, take, set, replicate, Some, sym, refl, ap, ◌∙◌, ⊎_elim, append_assoc, append-nil, arith}
-use native.Mathlib.Nat.{sub_self}
-use Rattle.std.proofs.lemmas.List.{length_push, length-map, length-take, take_more_set, replicate_more, map_push}
-use Rattle.std.proofs.lemmas.Bool.{and_from, and_left, and_right, and_cases, and_parts, le-leb, lt-leb, leb-false, cases_Bool, both_ways}
-use Rattle.sim.specs.Plans.{need_of, needs_of}
-use Rattle.sim.specs.declared.plan.PlanNeed.{PlanNeed}
-use Rattle.sim.specs.declared.plan.PlanPart.{PlanPart}
-use Rattle.script.specs.Lines.{Written, spread, need_from, each, up_to, levels_fit, need_fits, needs_fit}
-use Rattle.script.specs.Steps.{Levelled, Gathered, Needed}
-use Rattle.script.specs.declared.needs.Levels.{Levels}
-use Rattle.script.specs.declared.needs.Needs.{Needs}
-
--- one more at the end of a filled front
-pub fill_more : (xs ys : List ℕ) (from i a : ℕ) → from ≤ i → i < length xs → take i xs ≡ ys ++ replicate (i - from) a → take (i + 1) (set xs i a) ≡ ys ++ replicate (i + 1 - from) a
-fill_more xs ys from i a h l e =
-    let n : i - from + 1 ≡ i + 1 - from = omega arith in
-    take_more_set xs i a l ∙ ap (λ (zs : List ℕ). zs ++ a ∷ []) e ∙ append_assoc ys (replicate (i - from) a) (a ∷ []) ∙ ap (λ (zs : List ℕ). ys ++ zs) (replicate_more (i - from) a ∙ ap (λ (k : ℕ). replicate k a) n)
-
-pub fill_none : (xs : List ℕ) (n a : ℕ) → take n xs ≡ take n xs ++ replicate (n - n) a
-fill_none xs n a = rw sub_self (sym (append-nil (take n xs)))
+use Rattle.std.proofs.Common.{◌≡◌, ℕ, zero, suc, ◌+◌, ◌-◌, ◌<◌, ◌≤◌, Bool, true, leb, List, [], ◌∷◌, ◌++◌, length, take, drop, replicate, Some, None, sym, refl, ap, ◌∙◌, append-nil, arith}
+use borrow.Rule.Slice.PartMut.{put_mid}
+use Rattle.std.proofs.lemmas.List.{length_push, length-replicate, drop_all, take-append-drop}
+use Rattle.std.proofs.lemmas.Slice.{drop-put_mid, take-put_mid}
+use Rattle.std.proofs.lemmas.Bool.{cond-true, and_from, and_parts, le-leb}
+use Rattle.script.specs.Lines.{spread, each}
+use Rattle.script.specs.Steps.{IsSpread, written, spread_fits, if_spread_fits}
 
 spread_same : (n a : ℕ) → spread n a [] ≡ replicate n a
 spread_same zero a = refl
@@ -32,80 +19,57 @@ spread_push (suc n) l k [] a e =
     ap (λ (xs : List ℕ). a ∷ xs) (spread_same n a ∙ ap (λ (j : ℕ). replicate j a) m)
 spread_push (suc n) l k (b ∷ ls) a e = ap (λ (xs : List ℕ). b ∷ xs) (spread_push n b k ls a (omega arith))
 
--- the same of sixteen levels, where the first c are kept
-pub levels_more : (ls : List ℕ) (a c : ℕ) (least : List ℕ) → least ≡ 0 ∷ spread 15 0 ls → c ≡ length ls → c < 15 → take (c + 1) least ++ replicate (16 - (c + 1)) a ≡ 0 ∷ spread 15 0 (ls ++ a ∷ [])
-levels_more ls a c least e n h =
-    let k : 16 - (c + 1) ≡ suc (14 - c) = omega arith in
-    let s : c + 1 ≡ suc (length ls) = omega arith in
-    rw (k, s, e) (ap (λ (xs : List ℕ). 0 ∷ xs) (sym (spread_push 15 0 (14 - c) ls a (omega arith))))
+-- what stands from a place on is written anew
+filled : (a : ℕ) (xs ys : List ℕ) → a ≤ length xs → length ys ≡ length xs - a → put_mid a (length xs - a) xs ys ≡ take a xs ++ ys
+filled a xs ys h e =
+    let whole = put_mid a (length xs - a) xs ys in
+    let rest : drop (length xs) whole ≡ [] = drop-put_mid a (length xs - a) xs ys (length xs) (omega arith) h e ∙ drop_all (length xs) xs (omega arith) in
+    sym (take-append-drop (length xs) whole) ∙ ap (λ (zs : List ℕ). take (length xs) whole ++ zs) rest ∙ append-nil (take (length xs) whole) ∙ take-put_mid a (length xs - a) xs ys (length xs) (omega arith) h
 
-module _ {A : Type 0} (n : ℕ) (f : A → Bool) where
-  each_push : (xs : List A) (x : A) → each f xs ≡ true → f x ≡ true → each f (xs ++ x ∷ []) ≡ true
+length-spread : (n l : ℕ) (ls : List ℕ) → length (spread n l ls) ≡ n
+length-spread zero l ls = refl
+length-spread (suc n) l [] = ap suc (length-spread n l [])
+length-spread (suc n) l (m ∷ ls) = ap suc (length-spread n m ls)
+
+module _ {A : Type 0} (f : A → Bool) where
+  pub each_push : (xs : List A) (x : A) → each f xs ≡ true → f x ≡ true → each f (xs ++ x ∷ []) ≡ true
   each_push [] x t e = and_from (f x) true e refl
   each_push (y ∷ xs) x t e = and_from (f y) (each f (xs ++ x ∷ [])) (and_parts (f y) (each f xs) t).0 (each_push xs x (and_parts (f y) (each f xs) t).1 e)
 
-  each_last : (xs : List A) (x : A) → f x ≡ false → each f (xs ++ x ∷ []) ≡ false
-  each_last [] x e = and_left (f x) true e
-  each_last (y ∷ xs) x e = and_right (f y) (each f (xs ++ x ∷ [])) (each_last xs x e)
+-- one number more, where all fit
+fits_more : (top a : ℕ) (ls : List ℕ) → spread_fits top ls ≡ true → a ≤ top → length ls < 15 → spread_fits top (ls ++ a ∷ []) ≡ true
+fits_more top a ls t h l =
+    let fits = and_parts (leb (length ls) 15) (each (λ n. leb n top) ls) t in
+    and_from (leb (length (ls ++ a ∷ [])) 15) (each (λ n. leb n top) (ls ++ a ∷ [])) (le-leb (length (ls ++ a ∷ [])) 15 (omega (arith, length_push ls a))) (each_push (λ n. leb n top) ls a fits.1 (le-leb a top h))
 
-  each_not : (xs : List A) (x : A) → each f xs ≡ false → each f (xs ++ x ∷ []) ≡ false
-  each_not [] x t = absurd (both_ways true t refl)
-  each_not (y ∷ xs) x t = ⊎_elim (λ a. and_left (f y) (each f (xs ++ x ∷ [])) a) (λ b. and_right (f y) (each f (xs ++ x ∷ [])) (each_not xs x b)) (and_cases (f y) (each f xs) t)
+-- one more of sixteen levels
+spread_more : (levels ls new : List ℕ) (a c : ℕ) → levels ≡ 0 ∷ spread 15 0 ls → length ls ≡ c → c < 15 → new ≡ replicate (length levels - (c + 1)) a → put_mid (c + 1) (length levels - (c + 1)) levels new ≡ 0 ∷ spread 15 0 (ls ++ a ∷ [])
+spread_more levels ls new a c e n h f =
+    let long : length levels ≡ 16 = omega (arith, ap length e, length-spread 15 0 ls) in
+    let k : length levels - (c + 1) ≡ suc (14 - c) = omega arith in
+    let s : c + 1 ≡ suc (length ls) = omega arith in
+    filled (c + 1) levels new (omega arith) (ap length f ∙ length-replicate (length levels - (c + 1)) a)
+    ∙ ap (λ (zs : List ℕ). take (c + 1) levels ++ zs) (f ∙ ap (λ (j : ℕ). replicate j a) k)
+    ∙ ap (λ (zs : List ℕ). take (c + 1) zs ++ replicate (suc (14 - c)) a) e
+    ∙ ap (λ (j : ℕ). take j (0 ∷ spread 15 0 ls) ++ replicate (suc (14 - c)) a) s
+    ∙ ap (λ (xs : List ℕ). 0 ∷ xs) (sym (spread_push 15 0 (14 - c) ls a (omega arith)))
 
-  pub up_to_more : (xs : List A) (x : A) → up_to n f xs ≡ true → length xs < n → f x ≡ true → up_to n f (xs ++ x ∷ []) ≡ true
-  up_to_more xs x t h e =
-      and_from (leb (length (xs ++ x ∷ [])) n) (each f (xs ++ x ∷ [])) (le-leb (length (xs ++ x ∷ [])) n (omega (arith, length_push xs x))) (each_push xs x (and_parts (leb (length xs) n) (each f xs) t).1 e)
+-- the numbers that were spread
+spread_front : (n l : ℕ) (ls : List ℕ) → length ls ≤ n → take (length ls) (spread n l ls) ≡ ls
+spread_front zero l [] h = refl
+spread_front zero l (m ∷ ls) h = absurd (omega arith)
+spread_front (suc n) l [] h = refl
+spread_front (suc n) l (m ∷ ls) h = ap (λ (xs : List ℕ). m ∷ xs) (spread_front n m ls (omega arith))
 
-  pub up_to_last : (xs : List A) (x : A) → f x ≡ false → up_to n f (xs ++ x ∷ []) ≡ false
-  up_to_last xs x e = and_right (leb (length (xs ++ x ∷ [])) n) (each f (xs ++ x ∷ [])) (each_last xs x e)
+-- one number more that fits
+pub spread_with : (top a c : ℕ) (levels new : List ℕ) → IsSpread top c levels → a ≤ top → c < 15 → (k : ℕ) → new ≡ replicate k a → k ≡ length levels - (c + 1) → IsSpread top (c + 1) (put_mid (c + 1) (length levels - (c + 1)) levels new) × (written (c + 1) (put_mid (c + 1) (length levels - (c + 1)) levels new) ≡ written c levels ++ a ∷ [])
+spread_with top a c levels new h q s k f j =
+    let ls = written c levels in
+    let more : length (ls ++ a ∷ []) ≡ c + 1 = omega (arith, length_push ls a, h.long) in
+    let all = spread_more levels ls new a c h.all h.long s (f ∙ ap (λ (i : ℕ). replicate i a) j) in
+    let front = ap (λ (xs : List ℕ). take (c + 1) (drop 1 xs)) all ∙ ap (λ (k : ℕ). take k (spread 15 0 (ls ++ a ∷ []))) (sym more) ∙ spread_front 15 0 (ls ++ a ∷ []) (omega arith) in
+    (record { long = ap length front ∙ more; fits = ap (spread_fits top) front ∙ fits_more top a ls h.fits q (omega (arith, h.long)); all = all ∙ ap (λ (ms : List ℕ). 0 ∷ spread 15 0 ms) (sym front) }, front)
 
-  pub up_to_full : (xs : List A) (x : A) → n ≤ length xs → up_to n f (xs ++ x ∷ []) ≡ false
-  up_to_full xs x h = and_left (leb (length (xs ++ x ∷ [])) n) (each f (xs ++ x ∷ [])) (lt-leb (length (xs ++ x ∷ [])) n (omega (arith, length_push xs x)))
-
-  pub up_to_not : (xs : List A) (x : A) → up_to n f xs ≡ false → up_to n f (xs ++ x ∷ []) ≡ false
-  up_to_not xs x t =
-      ⊎_elim (λ a. let h = leb-false (length xs) n a in up_to_full xs x (omega arith)) (λ b. and_right (leb (length (xs ++ x ∷ [])) n) (each f (xs ++ x ∷ [])) (each_not xs x b)) (and_cases (leb (length xs) n) (each f xs) t)
-
-low : ℕ → Bool
-low l = leb l 15
-
--- a level that is too high, or one too many
-pub levelled_not : (v w : Levels) (ls : List ℕ) (a : ℕ) → Levelled v ls → w.fits ≡ false → (15 < a) ⊎ (15 ≤ v.count) → Levelled w (ls ++ a ∷ [])
-unfolding low
-levelled_not v w ls a h e why =
-    record { fits = e ∙ sym (⊎_elim (λ (q : 15 < a). up_to_last 15 low ls a (lt-leb a 15 q)) (λ (q : 15 ≤ v.count). full q) why); count = λ t. absurd (both_ways w.fits e t); least = λ t. absurd (both_ways w.fits e t) }
-  where
-    full : 15 ≤ v.count → levels_fit (ls ++ a ∷ []) ≡ false
-    full q =
-        ⊎_elim (λ (t : v.fits ≡ true). up_to_full 15 low ls a (omega (arith, h.count t))) (λ (t : v.fits ≡ false). up_to_not 15 low ls a (sym h.fits ∙ t)) (cases_Bool v.fits)
-
-pub levelled_more : (v w : Levels) (ls : List ℕ) (a : ℕ) → Levelled v ls → w.fits ≡ v.fits → w.count ≡ v.count + 1 → a ≤ 15 → v.count < 15 → w.least ≡ take (v.count + 1) v.least ++ replicate (16 - (v.count + 1)) a → Levelled w (ls ++ a ∷ [])
-unfolding low
-levelled_more v w ls a h e n q s l =
-    record {
-      fits = e ∙ ⊎_elim (λ (t : v.fits ≡ true). t ∙ sym (up_to_more 15 low ls a (sym h.fits ∙ t) (omega (arith, h.count t)) (le-leb a 15 q))) (λ (t : v.fits ≡ false). t ∙ sym (up_to_not 15 low ls a (sym h.fits ∙ t))) (cases_Bool v.fits);
-      count = λ t. omega (arith, h.count (sym e ∙ t), length_push ls a);
-      least = λ t. l ∙ levels_more ls a v.count v.least (h.least (sym e ∙ t)) (h.count (sym e ∙ t)) s;
-    }
-
-few_needs : (p : PlanPart) → length (needs_of p) ≤ 4
-few_needs p = omega (arith, length-map (take p.count p.needs) need_of, length-take p.count p.needs, p.few)
-
-four_needs : (p : PlanPart) → p.count ≡ 4 → length (needs_of p) ≡ 4
-four_needs p e = omega (arith, length-map (take p.count p.needs) need_of, length-take p.count p.needs, p.long)
-
--- a need that is too much, or one too many
-pub gathered_not : (v u : Needs) (ws : List Written) (w : Written) → Gathered v ws → u.fits ≡ false → (need_fits w ≡ false) ⊎ (v.part.count ≡ 4) → Gathered u (ws ++ w ∷ [])
-gathered_not v u ws w h e why =
-    record { fits = e ∙ sym (⊎_elim (λ q. up_to_last 4 need_fits ws w q) full why); needs = λ t. absurd (both_ways u.fits e t) }
-  where
-    full : v.part.count ≡ 4 → needs_fit (ws ++ w ∷ []) ≡ false
-    full q =
-        ⊎_elim (λ (t : v.fits ≡ true). up_to_full 4 need_fits ws w (omega (arith, four_needs v.part q, ap length (h.needs t), length-map ws need_from))) (λ (t : v.fits ≡ false). up_to_not 4 need_fits ws w (sym h.fits ∙ t)) (cases_Bool v.fits)
-
-pub gathered_more : (v u : Needs) (ws : List Written) (w : Written) (n : PlanNeed) → Gathered v ws → u.fits ≡ v.fits → Needed (Some n) w → needs_of u.part ≡ needs_of v.part ++ need_of n ∷ [] → Gathered u (ws ++ w ∷ [])
-gathered_more v u ws w n h e is p =
-    record {
-      fits = e ∙ ⊎_elim (λ (t : v.fits ≡ true). t ∙ sym (up_to_more 4 need_fits ws w (sym h.fits ∙ t) (omega (arith, few_needs u.part, ap length p, length_push (needs_of v.part) (need_of n), ap length (h.needs t), length-map ws need_from)) is.0)) (λ (t : v.fits ≡ false). t ∙ sym (up_to_not 4 need_fits ws w (sym h.fits ∙ t))) (cases_Bool v.fits);
-      needs = λ t. p ∙ (λ i. h.needs (sym e ∙ t) i ++ is.1 i ∷ []) ∙ sym (map_push need_from ws w);
-    }
+-- numbers that stand so do fit
+pub spread_is : (top c : ℕ) (levels ls : List ℕ) → IsSpread top c levels → written c levels ≡ ls → Some (written c levels) ≡ if_spread_fits top ls
+spread_is top c levels ls h e = ap Some e ∙ sym (cond-true (spread_fits top ls) (Some ls) None (ap (spread_fits top) (sym e) ∙ h.fits))

@@ -1,5 +1,4 @@
 mod Counted
-mod Drawing
 mod Formed
 mod Levelling
 mod Listed

@@ -1,7 +1,6 @@
 pub mod Events
 pub mod Forms
 pub mod Lines
-pub mod Rows
 pub mod Sheets
 pub mod Sources
 pub mod Steps

@@ -4,11 +4,10 @@ use Rattle.std.specs.Str.{bytes_eq}
 use Rattle.power.specs.Board.{Need}
 use Rattle.sim.specs.Plans.{needs_of, draw_of}
 use Rattle.script.specs.Text.{number_of}
-use Rattle.script.specs.declared.line.First.{First}
-use Rattle.script.specs.declared.line.First.TheVariants as first
 use Rattle.script.specs.declared.line.Line.{Line}
 use Rattle.script.specs.declared.line.Line.TheVariants as line
 use Rattle.script.specs.declared.line.NoLine.{NoLine}
+use Rattle.script.specs.declared.line.NoLine.TheVariants as fault
 
 -- a need as it is written: the part, its least at level 1, 2, .. and its most
 pub record Written : Type 0 where
@@ -136,43 +135,20 @@ abbrev pub user_line : ℕ → List (List ℕ) → Option Said
 user_line u [] = None
 user_line u (w ∷ ws) = cond (bytes_eq w (codes "give")) (only (give u) ws) (cond (bytes_eq w (codes "want")) (with_number (λ x. with_number (λ l. only (want u x l))) ws) None)
 
--- a number is a user's
-abbrev pub user_of : Option ℕ → First
-user_of None = first.Unknown
-user_of (Some u) = first.User u
-
--- what a line begins with
-abbrev pub first_of : List ℕ → First
-first_of w =
-    cond (bytes_eq w (codes "part")) first.Part
-    (cond (bytes_eq w (codes "run")) first.Run
-    (cond (bytes_eq w (codes "new")) first.New
-    (cond (bytes_eq w (codes "tick")) first.Tick
-    (cond (bytes_eq w (codes "bad")) first.Bad
-    (cond (bytes_eq w (codes "slow")) first.Slow
-    (cond (bytes_eq w (codes "least")) first.Least
-    (cond (bytes_eq w (codes "gives")) first.Gives
-    (cond (bytes_eq w (codes "drawn")) first.Drawn
-    (user_of (number_of w))))))))))
-
--- what the words after that say
-abbrev pub rest_of : First → List (List ℕ) → Option Said
-rest_of first.Part ws = with_number part_line ws
-rest_of first.Run ws = only run ws
-rest_of first.New ws = only new ws
-rest_of first.Tick ws = with_number (λ n. only (tick n)) ws
-rest_of first.Bad ws = with_number (λ x. only (bad x)) ws
-rest_of first.Slow ws = with_number (λ x. with_number (slow_line x)) ws
-rest_of first.Least ws = only least ws
-rest_of first.Gives ws = with_number (λ n. only (gives n)) ws
-rest_of first.Drawn ws = only drawn ws
-rest_of (first.User u) ws = user_line u ws
-rest_of first.Unknown ws = None
-
 -- what the words of a line say, if they are one
 abbrev pub line_of : List (List ℕ) → Option Said
 line_of [] = None
-line_of (w ∷ ws) = rest_of (first_of w) ws
+line_of (w ∷ ws) =
+    cond (bytes_eq w (codes "part")) (with_number part_line ws)
+    (cond (bytes_eq w (codes "run")) (only run ws)
+    (cond (bytes_eq w (codes "new")) (only new ws)
+    (cond (bytes_eq w (codes "tick")) (with_number (λ n. only (tick n)) ws)
+    (cond (bytes_eq w (codes "bad")) (with_number (λ x. only (bad x)) ws)
+    (cond (bytes_eq w (codes "slow")) (with_number (λ x. with_number (slow_line x)) ws)
+    (cond (bytes_eq w (codes "least")) (only least ws)
+    (cond (bytes_eq w (codes "gives")) (with_number (λ n. only (gives n)) ws)
+    (cond (bytes_eq w (codes "drawn")) (only drawn ws)
+    (after (number_of w) (λ u. user_line u ws))))))))))
 
 -- what was read
 abbrev pub said_of : Line → Said
@@ -192,3 +168,12 @@ said_of line.Drawn = drawn
 abbrev pub heard : Result Line NoLine → Option Said
 heard (Ok l) = Some (said_of l)
 heard (Err e) = None
+
+-- why a text is no line, as it is printed
+abbrev pub reason : NoLine → List ℕ
+reason fault.Empty = codes "empty"
+reason fault.UnknownWord = codes "unknown word"
+reason fault.MissingWord = codes "missing word"
+reason fault.NotANumber = codes "not a number"
+reason fault.ExtraWord = codes "extra word"
+reason fault.NeverAsked = codes "never asked"

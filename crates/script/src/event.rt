@@ -1,5 +1,11 @@
-// What is told of a run, and to whom.
-#[derive(Clone, Copy)]
+// What is told of a run, how it is printed, and who is told.
+ghost use Rattle.std.specs.Prelude.{Some};
+ghost use Rattle.script.specs.Events.{printed, spaced};
+
+use std::fmt;
+
+// Why a call is sent away, or a user told no, is the number that `World` gives: an enum would be made from it only to be printed as it.
+#[derive(Clone, Copy, Debug, PartialEq, Eq)]
 pub enum Event {
     Taken,
     // a call is sent away, and why
@@ -16,6 +22,45 @@ pub enum Event {
     NoPlan,
     // which line of the input is none
     NoLine(u64),
+}
+
+// An event, without the end of its line.
+impl fmt::Display for Event {
+    ghost output = { λ e. Some (printed e) };
+
+    fn fmt<W: fmt::Write>(&self, f: &mut fmt::Formatter<W>) -> fmt::Result {
+        match *self {
+            Event::Taken => f.write_str("taken"),
+            Event::Away(why) => write!(f, "away {why}"),
+            Event::Done(user) => write!(f, "{user} done"),
+            Event::No(user, why) => write!(f, "{user} no {why}"),
+            Event::Raise(x) => write!(f, "raise {x}"),
+            Event::Good(x) => write!(f, "good {x}"),
+            Event::Level(x, level) => write!(f, "level {x} {level}"),
+            Event::Lower(x) => write!(f, "lower {x}"),
+            Event::Drawn(sum) => write!(f, "{sum}"),
+            Event::NoPlan => f.write_str("no plan"),
+            Event::NoLine(number) => write!(f, "line {number}?"),
+        }
+    }
+}
+
+// Levels, with single spaces between them.
+#[derive(Clone, Copy)]
+pub(crate) struct Spaced<'a>(pub(crate) &'a [u32]);
+
+impl fmt::Display for Spaced<'_> {
+    ghost output = { λ levels. Some (spaced levels.0.now) };
+
+    fn fmt<W: fmt::Write>(&self, f: &mut fmt::Formatter<W>) -> fmt::Result {
+        if let [first, rest @ ..] = self.0 {
+            write!(f, "{first}")?;
+            for level in rest {
+                write!(f, " {level}")?;
+            }
+        }
+        Ok(())
+    }
 }
 
 // Who is told, each time on a line of its own.

@@ -2,7 +2,6 @@
 #![tactic(auto)]
 
 pub mod buffer;
-mod draws;
 pub mod event;
 pub mod line;
 pub mod lines;
@@ -10,8 +9,7 @@ mod needs;
 pub mod numbers;
 pub mod printer;
 pub mod read;
-mod row;
 pub mod sheet;
+mod sink;
 mod spread;
 pub mod words;
-mod write;

@@ -1,7 +1,12 @@
 // What a line says.
-use sim::plan::PlanPart;
+ghost use Rattle.std.specs.Prelude.{Some};
+ghost use Rattle.script.specs.Lines.{reason};
 
-#[derive(Clone, Copy)]
+use sim::plan::PlanPart;
+use std::error::Error;
+use std::fmt;
+
+#[derive(Clone, Copy, Debug, PartialEq, Eq)]
 pub enum Line {
     // a part, and what it draws and needs
     Part(u32, PlanPart),
@@ -23,7 +28,7 @@ pub enum Line {
 }
 
 // Why a text is no line.
-#[derive(Clone, Copy)]
+#[derive(Clone, Copy, Debug, PartialEq, Eq)]
 pub enum NoLine {
     Empty,
     UnknownWord,
@@ -34,19 +39,19 @@ pub enum NoLine {
     NeverAsked,
 }
 
-// What a line begins with.
-#[derive(Clone, Copy)]
-pub enum First {
-    Part,
-    Run,
-    New,
-    Tick,
-    Bad,
-    Slow,
-    Least,
-    Gives,
-    Drawn,
-    // a user's number
-    User(u32),
-    Unknown,
+impl fmt::Display for NoLine {
+    ghost output = { λ e. Some (reason e) };
+
+    fn fmt<W: fmt::Write>(&self, f: &mut fmt::Formatter<W>) -> fmt::Result {
+        match self {
+            NoLine::Empty => write!(f, "empty"),
+            NoLine::UnknownWord => write!(f, "unknown word"),
+            NoLine::MissingWord => write!(f, "missing word"),
+            NoLine::NotANumber => write!(f, "not a number"),
+            NoLine::ExtraWord => write!(f, "extra word"),
+            NoLine::NeverAsked => write!(f, "never asked"),
+        }
+    }
 }
+
+impl Error for NoLine {}

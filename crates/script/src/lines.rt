@@ -1,89 +1,40 @@
 // Where lines come from: a text in memory, or a stream.
-ghost use Rattle.std.specs.Prelude.{◌≡◌, ℕ, ◌+◌, ◌<◌, ◌≤◌, true, false, List, [], ◌++◌, length, take, drop, MatchBool, MatchOption};
-ghost use Rattle.script.specs.Sources.{Buffered, after_line, first_line, without_return};
+ghost use Rattle.std.specs.Prelude.{◌≡◌, ℕ, ◌<◌, ◌≤◌, [], ◌==◌, length, true, false, MatchBool, MatchResult, IfSome};
+ghost use Rattle.std.specs.List.{position};
+ghost use Rattle.std.specs.IoError.{error_kind};
+ghost use Rattle.std.specs.declared.io.ErrorKind.TheVariants.{UnexpectedEof};
+ghost use Rattle.script.specs.Sources.{Buffered, after_line, first_line};
 
 use super::buffer::LineBuffer;
-use super::write::put_at;
+use std::io;
 use std::io::{ErrorKind, Read};
 
-impl LineBuffer {
-    // An empty line.
-    pub fn new() -> LineBuffer
-        ensures { Buffered result [] }
-    {
-        LineBuffer {
-            bytes: [0; 4096],
-            len: 0,
-            too_long: false,
-        }
-    }
-
-    // Makes the line empty.
-    pub fn clear(&mut self)
-        ensures { Buffered self.new [] }
-    {
-        self.len = 0;
-        self.too_long = false;
-    }
-
-    // More bytes of the line.
-    pub fn add(&mut self, bytes: &[u8])
-        ensures { (bs : List ℕ) → Buffered self.old bs → Buffered self.new (bs ++ bytes.now) }
-    {
-        if self.too_long {
-            return;
-        }
-        if bytes.len() > 4096 - self.len {
-            self.too_long = true;
-            return;
-        }
-        let at = self.len;
-        put_at(&mut self.bytes, at, bytes);
-        self.len += bytes.len();
-    }
-
-    // The line, without a carriage return at its end; nothing if it is too long.
-    pub fn text(&self) -> Option<&[u8]>
-        ensures { (bs : List ℕ) → Buffered self.now bs → MatchOption result (4096 < length bs) (λ t. t.now ≡ without_return bs) }
-    {
-        if self.too_long {
-            return None;
-        }
-        Some(without_return(&self.bytes[0..self.len]))
-    }
+// Where the first newline stands, if there is one.
+fn newline(text: &[u8]) -> Option<usize>
+    ensures value { result ≡ position (λ b. b == 10) text.now }
+    ensures within { IfSome result (λ n. n < length text.now) }
+{
+    text.iter().position(|b| *b == b'\n')
 }
 
-fn without_return(line: &[u8]) -> &[u8]
-    ensures { result.now ≡ without_return line.now }
+// The bytes before the first newline, and what stands after it.
+fn split_line(text: &[u8]) -> (&[u8], &[u8])
+    ensures front { result.0.now ≡ first_line text.now }
+    ensures rest { result.1.now ≡ after_line text.now }
 {
-    let n = line.len();
-    if n > 0 && line[n - 1] == b'\r' {
-        &line[0..n - 1]
-    } else {
-        line
+    match newline(text) {
+        Some(n) => (&text[..n], &text[n + 1..]),
+        None => (text, &[]),
     }
-}
-
-// How many bytes stand before the first newline.
-fn line_len(text: &[u8]) -> usize
-    ensures within { result ≤ length text.now }
-    ensures front { take result text.now ≡ first_line text.now }
-    ensures rest { drop (result + 1) text.now ≡ after_line text.now }
-{
-    let mut n = 0;
-    while n < text.len() && text[n] != b'\n' {
-        n += 1;
-    }
-    n
 }
 
 pub trait Lines {
-    // Reads the next line; false if there is none.
+    // Reads the next line; false if there is none. A stream has no memory for a whole line: the line is read into the caller's.
     fn next_line(&mut self, line: &mut LineBuffer) -> bool;
 }
 
 // The lines of a text. The last one may lack its newline.
-#[derive(Clone, Copy)]
+#[derive(Clone, Copy, Debug)]
 pub struct SliceLines<'a> {
     pub rest: &'a [u8],
 }
@@ -92,30 +43,19 @@ impl Lines for SliceLines<'_> {
     fn next_line(&mut self, line: &mut LineBuffer) -> bool
         ensures { MatchBool result (Buffered line.new (first_line self.old.rest.now) × (self.new.rest.now ≡ after_line self.old.rest.now) × (length self.new.rest.now < length self.old.rest.now)) (self.old.rest.now ≡ []) }
     {
-        let text = self.rest;
-        if text.is_empty() {
+        if self.rest.is_empty() {
             return false;
         }
-        let n = line_len(text);
+        let (front, rest) = split_line(self.rest);
         line.clear();
-        line.add(&text[0..n]);
-        self.rest = past(text, n);
+        line.add(front);
+        self.rest = rest;
         true
     }
 }
 
-// What stands after the newline at n, if there is one.
-fn past(text: &[u8], n: usize) -> &[u8]
-    ensures { result.now ≡ drop (n + 1) text.now }
-{
-    if n < text.len() {
-        &text[n + 1..]
-    } else {
-        &text[text.len()..]
-    }
-}
-
-// The lines of a stream, which is read in pieces. `failed` says that it could not be read to its end.
+// The lines of a stream, which is read in pieces. `failed` says that it could not be read to its end: `next_line` has no error to give.
+// What is left of a piece lies from `at` up to `end`: a range would have to be taken apart to be used twice, and a vector can't be read into.
 #[derive(Drop)]
 pub struct StreamLines<'a, R> {
     input: &'a mut R,
@@ -138,11 +78,14 @@ impl<'a, R: Read> StreamLines<'a, R> {
         }
     }
 
-    // Whether the stream could not be read to its end.
-    pub fn failed(&self) -> bool
-        ensures { result ≡ self.now.failed }
+    // An error where the stream could not be read to its end.
+    pub fn end(&self) -> io::Result<()>
+        ensures { MatchResult result (λ _. self.now.failed ≡ false) (λ e. (self.now.failed ≡ true) × (error_kind e ≡ UnexpectedEof)) }
     {
-        self.failed
+        if self.failed {
+            return Err(ErrorKind::UnexpectedEof.into());
+        }
+        Ok(())
     }
 
     // Whether there is more: in the piece, or a new one is read.
@@ -181,13 +124,14 @@ impl<R: Read> Lines for StreamLines<'_, R> {
             }
             begun = true;
             let piece = &self.piece[self.at..self.end];
-            let n = line_len(piece);
-            line.add(&piece[0..n]);
-            if n < piece.len() {
-                self.at += n + 1;
-                return true;
-            }
-            self.at = self.end;
+            let Some(n) = newline(piece) else {
+                line.add(piece);
+                self.at = self.end;
+                continue;
+            };
+            line.add(&piece[..n]);
+            self.at += n + 1;
+            return true;
         }
         begun && !self.failed
     }

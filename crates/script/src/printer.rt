@@ -1,99 +1,72 @@
 // What is told, printed: through a buffer, so that a line costs no call of the system.
-ghost use Rattle.std.specs.Prelude.{◌≡◌, ◌+◌, ◌<◌, ◌≤◌, [], ◌∷◌, ◌++◌, length, take, MatchBool};
-ghost use Rattle.script.specs.Events.{printed, spaced};
+ghost use Rattle.std.specs.Prelude.{◌≡◌, true, false, [], MatchBool, MatchResult};
+ghost use Rattle.std.specs.IoError.{error_kind};
+ghost use Rattle.std.specs.declared.io.ErrorKind.TheVariants.{BrokenPipe};
 ghost use Rattle.script.specs.Sheets.{Waits};
 
-use super::event::{Event, Say};
-use super::row::Row;
-use super::write::{event_line, levels_line, put_at};
-use std::io::Write;
+use super::sink::Sink;
+use arrayvec::ArrayVec;
+use std::io;
+use std::io::{ErrorKind, Write};
 
-// `failed` says that something could not be printed; nothing is printed after that.
+// `failed` says that something could not be printed; nothing is printed after that. The traits that print have no error to give.
 #[derive(Drop)]
 pub struct Printer<'a, W> {
     out: &'a mut W,
-    buffer: [u8; 4096],
-    len: usize,
+    buffer: ArrayVec<u8, 4096>,
     failed: bool,
-    ghost within: { len ≤ 4096 },
-    ghost long: { length buffer ≡ 4096 },
 }
 
 impl<'a, W: Write> Printer<'a, W> {
     pub fn new(out: &'a mut W) -> Printer<'a, W> {
         Printer {
             out,
-            buffer: [0; 4096],
-            len: 0,
+            buffer: ArrayVec::new(),
             failed: false,
         }
     }
 
-    // Whether something could not be printed.
-    pub fn failed(&self) -> bool
-        ensures { result ≡ self.now.failed }
+    // An error where something could not be printed.
+    pub fn end(&self) -> io::Result<()>
+        ensures { MatchResult result (λ _. self.now.failed ≡ false) (λ e. (self.now.failed ≡ true) × (error_kind e ≡ BrokenPipe)) }
     {
-        self.failed
+        if self.failed {
+            return Err(ErrorKind::BrokenPipe.into());
+        }
+        Ok(())
     }
 
     // Prints what waits in the buffer.
     pub fn flush(&mut self)
-        ensures { self.new.len ≡ 0 }
+        ensures { self.new.buffer.items ≡ [] }
     {
-        let len = self.len;
-        self.len = 0;
-        if self.failed {
-            return;
+        if !self.failed {
+            self.failed = write_whole(self.out, self.buffer.as_slice()).is_err();
         }
-        if !write_front(self.out, &self.buffer, len) {
-            self.failed = true;
-        }
+        self.buffer.clear();
     }
+}
+
+// Writes the bytes, up to their end.
+fn write_whole<W: Write>(out: &mut W, bytes: &[u8]) -> io::Result<()> {
+    out.write_all(bytes)?;
+    out.flush()
+}
+
+impl<W: Write> Sink for Printer<'_, W> {
+    ghost puts = { λ was bytes is. MatchBool is.failed (Unit {0}) (Waits was.buffer.items bytes is.buffer.items) };
 
     // Bytes at the end of what waits, or after that was printed.
-    fn put(&mut self, bytes: &[u8])
-        ensures { MatchBool self.new.failed (Unit {0}) (Waits (take self.old.len self.old.buffer) bytes.now (take self.new.len self.new.buffer)) }
-    {
-        if bytes.len() > 4096 - self.len {
+    fn put(&mut self, bytes: &[u8]) {
+        if self.buffer.remaining_capacity() < bytes.len() {
             self.flush();
         }
-        if bytes.len() > 4096 - self.len {
-            self.failed = true;
-            return;
-        }
-        let at = self.len;
-        put_at(&mut self.buffer, at, bytes);
-        self.len += bytes.len();
-    }
-}
-
-// Writes the first `len` bytes, and says whether that went well.
-fn write_front<W: Write>(out: &mut W, bytes: &[u8], len: usize) -> bool
-    requires { len ≤ length bytes.now }
-{
-    out.write_all(&bytes[0..len]).is_ok() && out.flush().is_ok()
-}
-
-impl<W: Write> Say for Printer<'_, W> {
-    fn say(&mut self, event: Event)
-        ensures { MatchBool self.new.failed (Unit {0}) (Waits (take self.old.len self.old.buffer) (printed event ++ 10 ∷ []) (take self.new.len self.new.buffer)) }
-    {
-        let mut row = Row::empty();
-        if event_line(&mut row, event) {
-            self.put(row.text());
-        } else {
+        if self.buffer.try_extend_from_slice(bytes).is_err() {
             self.failed = true;
         }
     }
 
-    fn say_levels(&mut self, levels: &[u32])
-        ensures { MatchBool self.new.failed (Unit {0}) (Waits (take self.old.len self.old.buffer) (spaced levels.now ++ 10 ∷ []) (take self.new.len self.new.buffer)) }
-    {
-        let mut row = Row::empty();
-        if levels_line(&mut row, levels) {
-            self.put(row.text());
-        } else {
-            self.failed = true;
-        }
+    fn lose(&mut self) {
+        self.failed = true;
     }
 }

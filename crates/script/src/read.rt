@@ -1,37 +1,44 @@
 // Lines are read word by word.
-ghost use Rattle.std.specs.Prelude.{◌≡◌, ℕ, List, [], ◌∷◌};
+ghost use Rattle.std.specs.Prelude.{◌≡◌, ℕ, List, [], ◌∷◌, Option, Result};
 ghost use Rattle.script.specs.Text.{words_of};
 ghost use Rattle.script.specs.Forms.{ReadsBack};
-ghost use Rattle.script.specs.Lines.{draws_line, first_of, heard, line_of, needs_line, only, part_line, part_with, said_of, slow_line, user_line, with_number, tick, bad, gives, want};
-ghost use Rattle.script.specs.Steps.{Drew};
+ghost use Rattle.script.specs.Lines.{Said, Written, draws_line, heard, line_of, needs_line, only, part_line, part_with, said_of, slow_line, user_line, with_number};
+ghost use Rattle.script.specs.Steps.{Drew, Gathered, only_if};
+ghost use Rattle.script.specs.declared.line.Line.{Line};
+ghost use Rattle.script.specs.declared.line.NoLine.{NoLine};
 
-use super::draws::{Draws, more_draws};
-use super::line::{First, Line, NoLine};
-use super::needs::{Needs, all_needs};
+use super::line::{Line, NoLine};
+use super::needs::all_needs;
 use super::numbers::decimal;
-use super::words::{Words, is_word, number};
+use super::spread::Spread;
+use super::words::Words;
+use sim::plan::PlanPart;
+
+// Draws may be of any size.
+const ANY: u32 = u32::MAX;
+
+type Draws = Spread<ANY>;
 
 // What a text says, or why it says nothing.
 pub fn read_line(text: &[u8]) -> Result<Line, NoLine>
     ensures { heard result ≡ line_of (words_of text.now) }
 {
-    let mut words = Words { rest: text };
-    let word = match words.next() {
-        None => return Err(NoLine::Empty),
-        Some(word) => word,
-    };
-    match first(word) {
-        First::Part => part(words),
-        First::Run => alone(Line::Run, words),
-        First::New => alone(Line::New, words),
-        First::Tick => tick(words),
-        First::Bad => bad(words),
-        First::Slow => slow(words),
-        First::Least => alone(Line::Least, words),
-        First::Gives => gives(words),
-        First::Drawn => alone(Line::Drawn, words),
-        First::User(user) => by_user(user, words),
-        First::Unknown => Err(NoLine::UnknownWord),
+    let mut words = Words::new(text);
+    let word = words.next().ok_or(NoLine::Empty)?;
+    match word {
+        b"part" => part(words),
+        b"run" => alone(Line::Run, words),
+        b"new" => alone(Line::New, words),
+        b"tick" => one_number(Line::Tick, words),
+        b"bad" => one_number(Line::Bad, words),
+        b"slow" => two_numbers(slow, words),
+        b"least" => alone(Line::Least, words),
+        b"gives" => one_number(Line::Gives, words),
+        b"drawn" => alone(Line::Drawn, words),
+        _ => match decimal(word) {
+            Some(user) => by_user(user, words),
+            None => Err(NoLine::UnknownWord),
+        },
     }
 }
 
@@ -42,38 +49,9 @@ pub fn lines_read_back() -> u8
     0
 }
 
-fn first(word: &[u8]) -> First
-    ensures { result ≡ first_of word.now }
-{
-    if is_word(word, b"part") {
-        First::Part
-    } else if is_word(word, b"run") {
-        First::Run
-    } else if is_word(word, b"new") {
-        First::New
-    } else if is_word(word, b"tick") {
-        First::Tick
-    } else if is_word(word, b"bad") {
-        First::Bad
-    } else if is_word(word, b"slow") {
-        First::Slow
-    } else if is_word(word, b"least") {
-        First::Least
-    } else if is_word(word, b"gives") {
-        First::Gives
-    } else if is_word(word, b"drawn") {
-        First::Drawn
-    } else {
-        match decimal(word) {
-            Some(user) => First::User(user),
-            None => First::Unknown,
-        }
-    }
-}
-
 // A line that has no word more.
 fn alone(line: Line, mut words: Words<'_>) -> Result<Line, NoLine>
-    ensures { heard result ≡ only (said_of line) (words_of words.entry.rest.now) }
+    ensures { heard result ≡ only (said_of line) words.entry }
 {
     match words.next() {
         None => Ok(line),
@@ -81,110 +59,90 @@ fn alone(line: Line, mut words: Words<'_>) -> Result<Line, NoLine>
     }
 }
 
-fn tick(mut words: Words<'_>) -> Result<Line, NoLine>
-    ensures { heard result ≡ with_number (λ n. only (tick n)) (words_of words.entry.rest.now) }
+// A number, and the line that `say` makes of it.
+fn one_number<F: FnOnce(u32) -> Line>(say: F, mut words: Words<'_>) -> Result<Line, NoLine>
+    requires { F.IsAlwaysCallable say }
+    ensures { (f : ℕ → Said) → ((n : ℕ) (l : Line) → F.post say n l → said_of l ≡ f n) → heard result ≡ with_number (λ n. only (f n)) words.entry }
 {
-    let n = number(&mut words)?;
-    alone(Line::Tick(n), words)
+    let n = words.number()?;
+    alone(say(n), words)
 }
 
-fn bad(mut words: Words<'_>) -> Result<Line, NoLine>
-    ensures { heard result ≡ with_number (λ x. only (bad x)) (words_of words.entry.rest.now) }
+// Two numbers, and the line that `say` makes of them, if it makes one.
+fn two_numbers<F: FnOnce(u32, u32) -> Result<Line, NoLine>>(
+    say: F,
+    mut words: Words<'_>,
+) -> Result<Line, NoLine>
+    requires { F.IsAlwaysCallable say }
+    ensures { (f : ℕ → ℕ → List (List ℕ) → Option Said) → ((m n : ℕ) (r : Result Line NoLine) (ws : List (List ℕ)) → F.post say m n r → only_if (heard r) ws ≡ f m n ws) → heard result ≡ with_number (λ m. with_number (f m)) words.entry }
 {
-    let x = number(&mut words)?;
-    alone(Line::Bad(x), words)
+    let m = words.number()?;
+    let n = words.number()?;
+    alone(say(m, n)?, words)
 }
 
-fn gives(mut words: Words<'_>) -> Result<Line, NoLine>
-    ensures { heard result ≡ with_number (λ n. only (gives n)) (words_of words.entry.rest.now) }
+// Part x is good when asked for the nth time.
+fn slow(x: u32, n: u32) -> Result<Line, NoLine>
+    ensures { (ws : List (List ℕ)) → only_if (heard result) ws ≡ slow_line x n ws }
 {
-    let n = number(&mut words)?;
-    alone(Line::Gives(n), words)
-}
-
-fn slow(mut words: Words<'_>) -> Result<Line, NoLine>
-    ensures { heard result ≡ with_number (λ x. with_number (slow_line x)) (words_of words.entry.rest.now) }
-{
-    let x = number(&mut words)?;
-    let n = number(&mut words)?;
     if n == 0 {
-        return Err(NoLine::NeverAsked);
+        Err(NoLine::NeverAsked)
+    } else {
+        Ok(Line::Slow(x, n))
     }
-    alone(Line::Slow(x, n), words)
 }
 
 // What a user does: `give`, or `want X L`.
 fn by_user(user: u32, mut words: Words<'_>) -> Result<Line, NoLine>
-    ensures { heard result ≡ user_line user (words_of words.entry.rest.now) }
+    ensures { heard result ≡ user_line user words.entry }
 {
     match words.next() {
         None => Err(NoLine::MissingWord),
-        Some(word) => {
-            if is_word(word, b"give") {
-                alone(Line::Give(user), words)
-            } else if is_word(word, b"want") {
-                want(user, words)
-            } else {
-                Err(NoLine::UnknownWord)
-            }
-        }
+        Some(b"give") => alone(Line::Give(user), words),
+        Some(b"want") => two_numbers(|x, l| Ok(Line::Want(user, x, l)), words),
+        Some(_) => Err(NoLine::UnknownWord),
     }
-}
-
-fn want(user: u32, mut words: Words<'_>) -> Result<Line, NoLine>
-    ensures { heard result ≡ with_number (λ x. with_number (λ l. only (want user x l))) (words_of words.entry.rest.now) }
-{
-    let x = number(&mut words)?;
-    let l = number(&mut words)?;
-    alone(Line::Want(user, x, l), words)
 }
 
 // A part that draws nothing and needs nothing, or what follows `draws` or `needs`.
 fn part(mut words: Words<'_>) -> Result<Line, NoLine>
-    ensures { heard result ≡ with_number part_line (words_of words.entry.rest.now) }
+    ensures { heard result ≡ with_number part_line words.entry }
 {
-    let x = number(&mut words)?;
+    let x = words.number()?;
     match words.next() {
-        None => Ok(without_needs(x, Draws::none())),
-        Some(word) => {
-            if is_word(word, b"draws") {
-                with_draws(x, words)
-            } else if is_word(word, b"needs") {
-                with_needs(x, Draws::none(), words)
-            } else {
-                Err(NoLine::UnknownWord)
-            }
-        }
+        None => Ok(whole(x, Some(Spread::new()), Some(PlanPart::none()))),
+        Some(b"draws") => with_draws(x, words),
+        Some(b"needs") => with_needs(x, Some(Spread::new()), words),
+        Some(_) => Err(NoLine::UnknownWord),
     }
-}
-
-// Part x that needs nothing.
-fn without_needs(x: u32, draws: Draws) -> Line
-    ensures { (ds : List ℕ) → Drew draws ds → said_of result ≡ part_with x ds [] }
-{
-    let needs = Needs::none();
-    needs.line(x, draws)
-}
-
-// What part x needs, after what it draws.
-fn with_needs(x: u32, draws: Draws, mut words: Words<'_>) -> Result<Line, NoLine>
-    ensures { (ds : List ℕ) → Drew draws ds → heard result ≡ needs_line x ds (words_of words.entry.rest.now) }
-{
-    let needs = all_needs(&mut words)?;
-    Ok(needs.line(x, draws))
 }
 
 // What part x draws, and what it needs.
 fn with_draws(x: u32, mut words: Words<'_>) -> Result<Line, NoLine>
-    ensures { heard result ≡ with_number (λ d. draws_line x (d ∷ [])) (words_of words.entry.rest.now) }
+    ensures { heard result ≡ with_number (λ d. draws_line x (d ∷ [])) words.entry }
 {
-    let first = number(&mut words)?;
-    let mut draws = Draws::none();
-    draws.push(first);
-    let more = more_draws(&mut words, &mut draws)?;
-    if more {
-        with_needs(x, draws, words)
-    } else {
-        Ok(without_needs(x, draws))
+    let draws = Spread::read(&mut words, b"needs")?;
+    match words.next() {
+        None => Ok(whole(x, draws, Some(PlanPart::none()))),
+        Some(_) => with_needs(x, draws, words),
     }
+}
+
+// What part x needs, after what it draws.
+fn with_needs(x: u32, draws: Option<Draws>, mut words: Words<'_>) -> Result<Line, NoLine>
+    ensures { (ds : List ℕ) → Drew draws ds → heard result ≡ needs_line x ds words.entry }
+{
+    let needs = all_needs(&mut words)?;
+    Ok(whole(x, draws, needs))
+}
+
+// Part x with these draws and needs, if a plan can hold them.
+fn whole(x: u32, draws: Option<Draws>, needs: Option<PlanPart>) -> Line
+    ensures { (ds : List ℕ) (ws : List Written) → Drew draws ds → Gathered needs ws → said_of result ≡ part_with x ds ws }
+{
+    let (Some(draws), Some(mut part)) = (draws, needs) else {
+        return Line::Unfit(x);
+    };
+    part.set_draw(draws.levels());
+    Line::Part(x, part)
 }

@@ -1,18 +1,16 @@
 // What is told, written into lent memory.
-ghost use Rattle.std.specs.Prelude.{◌≡◌, ◌+◌, ◌<◌, ◌≤◌, true, false, [], ◌∷◌, ◌++◌, length};
-ghost use Rattle.script.specs.Events.{printed, spaced};
-ghost use Rattle.script.specs.Sheets.{Added};
+ghost use Rattle.std.specs.Prelude.{◌≡◌, ◌+◌, ◌≤◌, true, false, length, MatchResult};
 
-use super::event::{Event, Say};
-use super::row::Row;
-use super::write::{event_line, levels_line, put_at};
+use super::sink::Sink;
+use arrayvec::CapacityError;
 
-// The first `len` bytes are written. Where a line had no room, that and all that follow are left out.
+// The first `len` bytes are written. Where a line had no room, that and all that follow are left out: `len` counts what was written before.
 #[derive(Drop)]
 pub struct Sheet<'a> {
     text: &'a mut [u8],
     len: usize,
     full: bool,
+    ghost within: { len ≤ length text.now },
 }
 
 impl<'a> Sheet<'a> {
@@ -27,58 +25,37 @@ impl<'a> Sheet<'a> {
         }
     }
 
-    // How many bytes are written.
-    pub fn len(&self) -> usize
-        ensures { result ≡ self.now.len }
-    {
-        self.len
-    }
-
-    // Whether something had no room.
-    pub fn is_full(&self) -> bool
-        ensures { result ≡ self.now.full }
-    {
-        self.full
-    }
-
-    // Bytes at the end, all of them or none.
-    fn put(&mut self, bytes: &[u8])
-        ensures added { Added self.old self.new bytes.now }
-        ensures full_after { self.old.full ≡ false → self.old.len + length bytes.now ≤ length self.old.text.now → self.new.full ≡ false }
+    // How many bytes are written, or an error where something had no room.
+    pub fn finish(self) -> Result<usize, CapacityError>
+        ensures { MatchResult result (λ len. (self.entry.full ≡ false) × (len ≡ self.entry.len)) (λ _. self.entry.full ≡ true) }
     {
         if self.full {
-            return;
+            return Err(CapacityError::new(()));
         }
-        if self.len > self.text.len() || bytes.len() > self.text.len() - self.len {
-            self.full = true;
-            return;
-        }
-        let at = self.len;
-        put_at(self.text, at, bytes);
-        self.len += bytes.len();
+        Ok(self.len)
     }
 }
 
-impl Say for Sheet<'_> {
-    fn say(&mut self, event: Event)
-        ensures { Added self.old self.new (printed event ++ 10 ∷ []) }
+impl Sink for Sheet<'_> {
+    ghost use Rattle.script.specs.Sheets.{Added};
+
+    ghost puts = { λ was bytes is. Added was is bytes };
+
+    // Bytes at the end, all of them or none.
+    fn put(&mut self, line: &[u8])
+        ensures added { Added self.old self.new line.now }
+        ensures full_after { self.old.full ≡ false → self.old.len + length line.now ≤ length self.old.text.now → self.new.full ≡ false }
     {
-        let mut row = Row::empty();
-        if event_line(&mut row, event) {
-            self.put(row.text());
-        } else {
+        if self.full || line.len() > self.text.len() - self.len {
             self.full = true;
+            return;
         }
+        let end = self.len + line.len();
+        self.text[self.len..end].copy_from_slice(line);
+        self.len = end;
     }
 
-    fn say_levels(&mut self, levels: &[u32])
-        ensures { Added self.old self.new (spaced levels.now ++ 10 ∷ []) }
-    {
-        let mut row = Row::empty();
-        if levels_line(&mut row, levels) {
-            self.put(row.text());
-        } else {
-            self.full = true;
-        }
+    fn lose(&mut self) {
+        self.full = true;
     }
 }

@@ -1,15 +1,83 @@
-// Numbers for the levels from 1 on: the last that is written holds for all that follow.
-ghost use Rattle.std.specs.Prelude.{◌≡◌, ◌-◌, ◌≤◌, ◌++◌, take, replicate};
+// Numbers for the levels from 1 on, as a line writes them: the last that is written holds for all that follow.
+ghost use Rattle.std.specs.Prelude.{◌≡◌, ℕ, List, [], ◌∷◌, ◌++◌, Some, None, MatchResult};
+ghost use Rattle.script.specs.Lines.{spread};
+ghost use Rattle.script.specs.Steps.{if_spread_fits, numbers_to};
+
+use super::line::NoLine;
+use super::numbers::decimal;
+use super::words::Words;
+use std::marker::Model;
 
 // How many a plan can hold.
-pub(crate) const MOST_LEVELS: usize = 15;
+const MOST_LEVELS: usize = 15;
 
-// From index `from` on there is this number.
-pub(crate) fn spread_from(least: &mut [u32; 16], from: usize, level: u32)
-    requires { from ≤ 16 }
-    ensures { least.new ≡ take from least.old ++ replicate (16 - from) level }
-{
-    for i in from..16 {
-        least[i] = level;
+// The numbers that were read, each at most TOP: `levels` has 0 for off, and then one for each level.
+// An array with a count beside it, since there is no heap.
+#[derive(Drop)]
+pub(crate) struct Spread<const TOP: u32> {
+    levels: [u32; 16],
+    count: usize,
+}
+
+impl<const TOP: u32> Model for Spread<TOP> {
+    ghost use Rattle.std.specs.Prelude.{ℕ, List};
+    ghost use Rattle.script.specs.Steps.{IsSpread, written};
+
+    ghost Value = { List ℕ };
+
+    ghost view = { λ s. written s.count s.levels };
+
+    ghost invariant = { λ s. IsSpread TOP s.count s.levels };
+}
+
+impl<const TOP: u32> Spread<TOP> {
+    // Nothing at any level.
+    pub(crate) fn new() -> Spread<TOP>
+        ensures { result ≡ [] }
+    {
+        Spread {
+            levels: [0; 16],
+            count: 0,
+        }
+    }
+
+    // One more, which holds for all levels that follow; `None` where no plan can hold that.
+    fn with(mut self, n: u32) -> Option<Spread<TOP>>
+        ensures { result ≡ if_spread_fits TOP (self.entry ++ n ∷ []) }
+    {
+        if n > TOP || self.count >= MOST_LEVELS {
+            return None;
+        }
+        self.count += 1;
+        let from = self.count;
+        self.levels[from..].fill(n);
+        Some(self)
+    }
+
+    // One more after these, if a plan can hold all (not `and_then`: in generic code nothing is known of what a closure gives).
+    fn and(spread: Option<Spread<TOP>>, n: u32) -> Option<Spread<TOP>>
+        ensures { (ns : List ℕ) → spread.entry ≡ if_spread_fits TOP ns → result ≡ if_spread_fits TOP (ns ++ n ∷ []) }
+    {
+        spread?.with(n)
+    }
+
+    // One number or more, up to this word or the end of the line; `None` where no plan can hold them.
+    pub(crate) fn read(words: &mut Words<'_>, until: &[u8]) -> Result<Option<Spread<TOP>>, NoLine>
+        ensures { MatchResult result (λ s. (ns : List ℕ) × (numbers_to until.now words.old ≡ Some (ns, words.new)) × (s ≡ if_spread_fits TOP ns)) (λ _. numbers_to until.now words.old ≡ None) }
+    {
+        let first = words.number()?;
+        let mut read = Spread::new().with(first);
+        while let Some(word) = words.next_unless(until) {
+            let n = decimal(word).ok_or(NoLine::NotANumber)?;
+            read = Spread::and(read, n);
+        }
+        Ok(read)
+    }
+
+    // The numbers of all levels; 0 for off.
+    pub(crate) fn levels(&self) -> [u32; 16]
+        ensures { result ≡ 0 ∷ spread 15 0 self.now }
+    {
+        self.levels
     }
 }

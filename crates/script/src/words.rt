@@ -1,30 +1,87 @@
 // The words of a line: what stands between spaces and tabs.
-ghost use Rattle.std.specs.Prelude.{◌≡◌, ℕ, ◌<◌, ◌≤◌, true, false, List, [], ◌∷◌, length, MatchOption, MatchResult, slice_index};
+ghost use Rattle.std.specs.Prelude.{◌≡◌, ℕ, ◌≤◌, true, false, not, List, ◌∷◌, length, MatchOption, MatchResult};
+ghost use Rattle.std.specs.Iterator.{YieldsFirstRef, item_count};
+ghost use Rattle.std.specs.List.{prefix_len};
 ghost use Rattle.std.specs.Str.{bytes_eq};
-ghost use Rattle.script.specs.Steps.{Began, Lacks, Misses};
+ghost use Rattle.script.specs.Steps.{Began, Lacks, Misses, Stops};
 ghost use Rattle.script.specs.Text.{is_blank, words_of};
 
 use super::line::NoLine;
 use super::numbers::decimal;
+use std::marker::Model;
 
-// What has not been read yet.
-#[derive(Clone, Copy)]
+// What has not been read yet: the words that are still to come.
+#[derive(Drop)]
 pub struct Words<'a> {
-    pub rest: &'a [u8],
+    rest: &'a [u8],
+}
+
+impl<'a> Model for Words<'a> {
+    ghost use Rattle.std.specs.Prelude.{ℕ, List};
+    ghost use Rattle.script.specs.Text.{words_of};
+
+    ghost Value = { List (List ℕ) };
+
+    ghost view = { λ w. words_of w.rest.now };
+}
+
+impl<'a> Iterator for Words<'a> {
+    type Item = &'a [u8];
+
+    ghost next_gives = { YieldsFirstRef (λ w. w) };
+
+    ghost remaining = { item_count (λ w. w) };
+
+    fn next(&mut self) -> Option<&'a [u8]> {
+        let (_, text) = self.rest.split_at(blanks_len(self.rest));
+        let (word, rest) = text.split_at(word_len(text));
+        self.rest = rest;
+        if word.is_empty() {
+            return None;
+        }
+        Some(word)
+    }
 }
 
 impl<'a> Words<'a> {
-    // The next word.
-    pub fn next(&mut self) -> Option<&'a [u8]>
-        ensures { MatchOption result (words_of self.old.rest.now ≡ []) (λ w. (words_of self.old.rest.now ≡ w.now ∷ words_of self.new.rest.now) × (length self.new.rest.now < length self.old.rest.now)) }
+    // The words of a text.
+    pub fn new(text: &'a [u8]) -> Words<'a>
+        ensures { result ≡ words_of text.now }
     {
-        let text = past_blanks(self.rest);
-        if text.is_empty() {
+        Words { rest: text }
+    }
+
+    // The next word, unless it is this one, which then stays.
+    pub(crate) fn next_unless(&mut self, name: &[u8]) -> Option<&'a [u8]>
+        ensures { MatchOption result ((self.new ≡ self.old) × Stops name.now self.old) (λ w. (self.old ≡ w.now ∷ self.new) × (bytes_eq w.now name.now ≡ false)) }
+    {
+        let mut ahead = Words { rest: self.rest };
+        let word = ahead.next()?;
+        if word == name {
             return None;
         }
-        let long = word_len(text);
-        self.rest = &text[long..];
-        Some(&text[0..long])
+        *self = ahead;
+        Some(word)
+    }
+
+    // The number that comes next.
+    pub(crate) fn number(&mut self) -> Result<u32, NoLine>
+        ensures { MatchResult result (λ n. Began n self.old self.new) (λ _. Lacks self.old) }
+    {
+        let word = self.next().ok_or(NoLine::MissingWord)?;
+        decimal(word).ok_or(NoLine::NotANumber)
+    }
+
+    // Passes over this word.
+    pub(crate) fn keyword(&mut self, name: &[u8]) -> Result<(), NoLine>
+        ensures { MatchResult result (λ _. (w : List ℕ) × (self.old ≡ w ∷ self.new) × (bytes_eq w name.now ≡ true)) (λ _. Misses name.now self.old) }
+    {
+        let word = self.next().ok_or(NoLine::MissingWord)?;
+        if word == name {
+            Ok(())
+        } else {
+            Err(NoLine::UnknownWord)
+        }
     }
 }
 
@@ -34,64 +91,18 @@ fn is_blank(b: u8) -> bool
     b == b' ' || b == b'\t'
 }
 
-// A text without the blanks that it begins with.
-fn past_blanks(text: &[u8]) -> &[u8]
-    ensures same { words_of result.now ≡ words_of text.now }
-    ensures within { length result.now ≤ length text.now }
-    ensures starts { 0 < length result.now → is_blank (slice_index result.now 0) ≡ false }
+// How many blanks a text begins with.
+fn blanks_len(text: &[u8]) -> usize
+    ensures value { result ≡ prefix_len is_blank text.now }
+    ensures within { result ≤ length text.now }
 {
-    let mut n = 0;
-    while n < text.len() && is_blank(text[n]) {
-        n += 1;
-    }
-    &text[n..]
+    text.iter().take_while(|b| is_blank(**b)).count()
 }
 
 // How many bytes stand before the first blank of a text.
 fn word_len(text: &[u8]) -> usize
+    ensures value { result ≡ prefix_len (λ b. not (is_blank b)) text.now }
     ensures within { result ≤ length text.now }
-    ensures before { (k : ℕ) → k < result → is_blank (slice_index text.now k) ≡ false }
-    ensures stops { result < length text.now → is_blank (slice_index text.now result) ≡ true }
 {
-    let mut n = 0;
-    while n < text.len() && !is_blank(text[n]) {
-        n += 1;
-    }
-    n
-}
-
-// Whether a word is this one.
-pub(crate) fn is_word(word: &[u8], name: &[u8]) -> bool
-    ensures { result ≡ bytes_eq word.now name.now }
-{
-    word == name
-}
-
-// The number that comes next.
-pub(crate) fn number(words: &mut Words<'_>) -> Result<u32, NoLine>
-    ensures { MatchResult result (λ n. Began n (words_of words.old.rest.now) (words_of words.new.rest.now) × (length words.new.rest.now < length words.old.rest.now)) (λ _. Lacks (words_of words.old.rest.now)) }
-{
-    match words.next() {
-        None => Err(NoLine::MissingWord),
-        Some(word) => match decimal(word) {
-            None => Err(NoLine::NotANumber),
-            Some(n) => Ok(n),
-        },
-    }
-}
-
-// Passes over this word.
-pub(crate) fn keyword(words: &mut Words<'_>, name: &[u8]) -> Result<(), NoLine>
-    ensures { MatchResult result (λ _. (w : List ℕ) × (words_of words.old.rest.now ≡ w ∷ words_of words.new.rest.now) × (bytes_eq w name.now ≡ true) × (length words.new.rest.now < length words.old.rest.now)) (λ _. Misses name.now (words_of words.old.rest.now)) }
-{
-    match words.next() {
-        None => Err(NoLine::MissingWord),
-        Some(word) => {
-            if is_word(word, name) {
-                Ok(())
-            } else {
-                Err(NoLine::UnknownWord)
-            }
-        }
-    }
+    text.iter().take_while(|b| !is_blank(**b)).count()
 }

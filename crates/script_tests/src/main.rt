@@ -3,69 +3,51 @@
 
 use script::buffer::LineBuffer;
 use script::event::{Event, Say};
-use script::line::{Line, NoLine};
+use script::line::Line;
 use script::lines::{Lines, StreamLines};
 use script::printer::Printer;
 use script::read::read_line;
-use sim::plan::PlanPart;
-use std::io;
+use sim::plan::{PlanNeed, PlanPart};
 use std::io::Write;
+use std::{fmt, io};
 
-fn reason(no: NoLine) -> &'static str {
-    match no {
-        NoLine::Empty => "empty",
-        NoLine::UnknownWord => "unknown word",
-        NoLine::MissingWord => "missing word",
-        NoLine::NotANumber => "not a number",
-        NoLine::ExtraWord => "extra word",
-        NoLine::NeverAsked => "never asked",
-    }
-}
+// What a line says, as it is printed here.
+#[derive(Drop)]
+struct Shown(Line);
 
-fn draws_nothing(draw: &[u32; 16]) -> bool {
-    for l in 0..16 {
-        if draw[l] != 0 {
-            return false;
+impl fmt::Display for Shown {
+    fn fmt<W: fmt::Write>(&self, f: &mut fmt::Formatter<W>) -> fmt::Result {
+        match &self.0 {
+            Line::Part(x, part) => {
+                write!(f, "part {x}")?;
+                show_part(part, f)
+            }
+            Line::Unfit(x) => write!(f, "unfit {x}"),
+            Line::Run => write!(f, "run"),
+            Line::New => write!(f, "new"),
+            Line::Want(u, x, l) => write!(f, "{u} wants {x} at {l}"),
+            Line::Give(u) => write!(f, "{u} gives"),
+            Line::Tick(n) => write!(f, "tick {n}"),
+            Line::Bad(x) => write!(f, "bad {x}"),
+            Line::Slow(x, n) => write!(f, "slow {x} {n}"),
+            Line::Least => write!(f, "least"),
+            Line::Gives(n) => write!(f, "the board gives {n}"),
+            Line::Drawn => write!(f, "drawn"),
         }
     }
-    true
 }
 
-fn show_part(rt: &HostRuntime, part: PlanPart) -> io::Result<()> {
+// What a part draws, if it draws anything, and each of its needs, on lines of their own.
+fn show_part<W: fmt::Write>(part: &PlanPart, f: &mut fmt::Formatter<W>) -> fmt::Result {
     let draw = part.draw;
-    if !draws_nothing(&draw) {
-        println!(rt; "  draws {draw:?}")?;
+    if draw.iter().any(|d| *d != 0) {
+        write!(f, "\n  draws {draw:?}")?;
     }
-    for k in 0..4 {
-        if k < part.count {
-            let need = part.needs[k as usize];
-            let on = need.on;
-            let most = need.most;
-            let least = need.least;
-            println!(rt; "  {on} {least:?} {most}")?;
-        }
+    for need in part.needs.iter().take(part.count as usize) {
+        let PlanNeed { on, least, most } = *need;
+        write!(f, "\n  {on} {least:?} {most}")?;
     }
     Ok(())
-}
-
-fn show(rt: &HostRuntime, line: Line) -> io::Result<()> {
-    match line {
-        Line::Part(x, part) => {
-            println!(rt; "part {x}")?;
-            show_part(rt, part)
-        }
-        Line::Unfit(x) => println!(rt; "unfit {x}"),
-        Line::Run => println!(rt; "run"),
-        Line::New => println!(rt; "new"),
-        Line::Want(u, x, l) => println!(rt; "{u} wants {x} at {l}"),
-        Line::Give(u) => println!(rt; "{u} gives"),
-        Line::Tick(n) => println!(rt; "tick {n}"),
-        Line::Bad(x) => println!(rt; "bad {x}"),
-        Line::Slow(x, n) => println!(rt; "slow {x} {n}"),
-        Line::Least => println!(rt; "least"),
-        Line::Gives(n) => println!(rt; "the board gives {n}"),
-        Line::Drawn => println!(rt; "drawn"),
-    }
 }
 
 fn show_events(rt: &HostRuntime) {
@@ -94,11 +76,11 @@ fn main(rt: HostRuntime) -> io::Result<()> {
         match line.text() {
             None => println!(rt; "too long")?,
             Some(text) => match read_line(text) {
-                Ok(said) => show(&rt, said)?,
-                Err(no) => {
-                    let why = reason(no);
-                    println!(rt; "no line: {why}")?
+                Ok(line) => {
+                    let shown = Shown(line);
+                    println!(rt; "{shown}")?
                 }
+                Err(why) => println!(rt; "no line: {why}")?,
             },
         }
     }

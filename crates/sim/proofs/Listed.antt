@@ -1,6 +1,6 @@
 -- The needs and draws of a part, as a written plan lists them. Assumes nothing.
 use Rattle.std.proofs.Common.{◌≡◌, ℕ, zero, suc, ◌<◌, ◌≤◌, List, [], ◌∷◌, map, length, get_or, take, set, sym, refl, ap, ◌∙◌, subst, inl, inr, arith}
-use Rattle.std.proofs.lemmas.List.{get_or-map, get_or_past, length-map, length-take-le, get_or-take, map-set}
+use Rattle.std.proofs.lemmas.List.{get_or-map, get_or_past, length-map, length-take-le, map-set}
 use Rattle.std.proofs.lemmas.Bool.{cases_lt}
 use Rattle.power.specs.Board.{Need, put, on_of, least_of, most_of}
 use Rattle.sim.specs.declared.plan.PlanNeed.{PlanNeed}
@@ -18,9 +18,6 @@ needs_past ps x h = get_or_past (map needs_of ps) x [] (simp length-map h)
 pub draws_at_lem : (ps : List PlanPart) (x : ℕ) (d : PlanPart) → x < length ps → draws_at ps x ≡ (get_or ps x d).draw
 draws_at_lem ps x d h = get_or-map draw_of ps x d [] h
 
-pub draws_past : (ps : List PlanPart) (x : ℕ) → length ps ≤ x → draws_at ps x ≡ []
-draws_past ps x h = get_or_past (map draw_of ps) x [] (simp length-map h)
-
 -- one part in another's place, in any list that its parts have
 pub set_listed : {A : Type 0} (f : PlanPart → List A) (ps : List PlanPart) (n : ℕ) (p : PlanPart) → n < length ps → (λ y. get_or (map f (set ps n p)) y []) ≡ put n (f p) (λ y. get_or (map f ps) y [])
 set_listed {A} f ps n p h =
@@ -36,11 +33,6 @@ pub listed : (ps : List PlanPart) (x k : ℕ) → k < length (needs_at ps x) →
 listed ps x k h =
     elim (cases_lt x (length ps)) [ inl l ↦ l | inr g ↦ absurd (omega (arith, ap length (needs_past ps x g))) ]
 
-pub listed_need : (ps : List PlanPart) (x k : ℕ) (d : PlanPart) → k < length (needs_at ps x) → (k < (get_or ps x d).count) × (k < 4)
-listed_need ps x k d h =
-    let c : k < (get_or ps x d).count = omega (arith, ap length (needs_at_lem ps x d (listed ps x k h)), length_needs (get_or ps x d)) in
-    (c, omega (arith, (get_or ps x d).few))
-
 -- the kth need of a list of written needs
 tells_map : (ms : List PlanNeed) (k : ℕ) (d : PlanNeed) → k < length ms → Tells (need_of (get_or ms k d)) k (map need_of ms)
 unfolding on_of least_of most_of
@@ -49,12 +41,9 @@ tells_map (m ∷ ms) zero d h = record { on = refl; least = λ l. refl; most = r
 tells_map (m ∷ ms) (suc k) d h =
     let r = tells_map ms k d (omega arith) in record { on = r.on; least = r.least; most = r.most }
 
-pub tells_need : (ps : List PlanPart) (x k : ℕ) (d : PlanPart) (e : PlanNeed) → k < length (needs_at ps x) → Tells (need_of (get_or (get_or ps x d).needs k e)) k (needs_at ps x)
-tells_need ps x k d e h =
-    let p = get_or ps x d in
-    let c : k < p.count = (listed_need ps x k d h).0 in
-    let l : k < length (take p.count p.needs) = omega (arith, length-take-le p.count p.needs (omega arith)) in
-    let t = tells_map (take p.count p.needs) k e l in
-    let w : get_or (take p.count p.needs) k e ≡ get_or p.needs k e = get_or-take p.count p.needs k e c in
-    subst (λ (ns : List Need). Tells (need_of (get_or p.needs k e)) k ns) (sym (needs_at_lem ps x d (listed ps x k h)))
-    (subst (λ (m : PlanNeed). Tells (need_of m) k (needs_of p)) w t)
+-- of what a part that there is needs
+pub tells_need : (ps : List PlanPart) (x k : ℕ) (d : PlanPart) (ns : List PlanNeed) (e : PlanNeed) → k < length (needs_at ps x) → map need_of ns ≡ needs_of (get_or ps x d) → Tells (need_of (get_or ns k e)) k (needs_at ps x)
+tells_need ps x k d ns e h m =
+    let s : map need_of ns ≡ needs_at ps x = m ∙ sym (needs_at_lem ps x d (listed ps x k h)) in
+    let l : k < length ns = omega (arith, ap length s, length-map ns need_of) in
+    subst (λ (ms : List Need). Tells (need_of (get_or ns k e)) k ms) s (tells_map ns k e l)

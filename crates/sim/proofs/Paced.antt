@@ -1,15 +1,14 @@
 -- What paces mean: the nth asking is the good one. Assumes nothing.
-use Rattle.std.proofs.Common.{◌≡◌, ℕ, zero, suc, ◌+◌, ◌-◌, false, leb, refl, ◌∙◌, arith}
+use Rattle.std.proofs.Common.{◌≡◌, ℕ, zero, suc, ◌+◌, ◌-◌, false, leb, Some, None, refl, ◌∙◌, arith}
 use Rattle.std.proofs.lemmas.Bool.Decides.{nat_tests}
 use Rattle.sim.specs.Paces.{ready, asked, GoodAtTheNth}
-use Rattle.sim.specs.declared.state.Pace.TheVariants.{At, Never}
 
-ready_at : (k n : ℕ) → ready (asked k (At n)) ≡ leb n (k + 1)
+ready_at : (k n : ℕ) → ready (asked k (Some n)) ≡ leb n (k + 1)
 unfolding asked
 ready_at zero n = refl
 ready_at (suc k) n = ready_at k (n - 1) ∙ grind (arith, nat_tests)
 
-ready_never : (k : ℕ) → ready (asked k Never) ≡ false
+ready_never : (k : ℕ) → ready (asked k None) ≡ false
 unfolding asked
 ready_never zero = refl
 ready_never (suc k) = ready_never k

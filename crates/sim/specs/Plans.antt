@@ -1,15 +1,12 @@
 -- What a written plan means: the needs and draws of each part, in the words of the board.
-use Rattle.std.specs.Prelude.{◌≡◌, ℕ, Bool, not, List, [], map, get_or, take, replicate, ◌==◌, slice_index_or, refl}
-use Rattle.power.specs.Board.{Board, Need, Off, None', least_at, on_of, least_of, most_of, every}
+use Rattle.std.specs.Prelude.{◌≡◌, ℕ, Bool, ◌&&◌, List, [], map, length, take, nat_le, slice_index_or}
+use Rattle.power.specs.Board.{Board, Need, Off, None', least_at, on_of, least_of, most_of, all, apart, good_need, good_draw}
 use Rattle.sim.specs.declared.plan.PlanNeed.{PlanNeed}
 use Rattle.sim.specs.declared.plan.PlanPart.{PlanPart}
 use Rattle.sim.specs.declared.plan.Plan.{Plan}
 
 abbrev pub need_of : PlanNeed → Need
 need_of n = record { on = n.on; least = n.least; most = n.most }
-
-abbrev pub no_need : PlanNeed
-no_need = record { on = 0; least = replicate 16 0; most = 0; long = refl }
 
 abbrev pub needs_of : PlanPart → List Need
 needs_of p = map need_of (take p.count p.needs)
@@ -25,9 +22,9 @@ draw_of p = p.draw
 abbrev pub draws_at : List PlanPart → ℕ → List ℕ
 draws_at ps x = slice_index_or (map draw_of ps) x []
 
--- the ith of these goes to another part than those before it
-abbrev pub is_new : List PlanNeed → ℕ → Bool
-is_new ns i = every i (λ j. not ((get_or ns i no_need).on == (get_or ns j no_need).on))
+-- what a plan that makes sense has for part x, that needs these and draws these
+abbrev pub sense : ℕ → List Need → List ℕ → Bool
+sense x ns ds = all (good_need x) ns && apart ns && nat_le (length ns) 4 && good_draw ds
 
 -- n is the kth of the needs ns, in the words of the trait `Parts`
 pub record Tells (n : Need) (k : ℕ) (ns : List Need) : Type 0 where

@@ -1,12 +1,14 @@
-// A board in memory is `Parts`.
-ghost use Rattle.std.specs.Prelude.{◌≡◌, ◌<◌, T, if◌then◌else◌, slice_set};
-ghost use Rattle.power.specs.Board.{Board, MayRaise, MayLower, MayLevel, Tries, raised, lowered, levelled, is_rising};
+// A board in memory is `Parts`. What leaves the paces alone says so by a clause: a method of the trait takes the whole board.
+ghost use Rattle.std.specs.Prelude.{◌≡◌, ℕ, ◌<◌, T, if◌then◌else◌};
+ghost use Rattle.power.specs.Board.{Board, put, MayRaise, MayLower, MayLevel, Tries, raised, lowered, levelled, is_rising};
 ghost use Rattle.sim.specs.Boards.{board_of};
 ghost use Rattle.sim.specs.Paces.{pace_of, next_pace_of, ready, waited, SamePaces};
 
-use super::pace::{after_asking, is_ready, one_more};
-use super::state::{PartState, Sim};
+use super::pace::{after_asking, is_ready};
+use super::state::{Sim, SimPart};
 use power::Parts;
+use power::counts::one_more;
+use power::state::PartState;
 use power::types::Level;
 
 impl Parts for Sim {
@@ -44,30 +46,41 @@ impl Parts for Sim {
     fn raise(&mut self, x: u32)
         requires { MayRaise (board_of self.old) x }
         ensures does { board_of self.new ≡ raised x (board_of self.old) }
-        ensures paces { (self.new.pace ≡ slice_set self.old.pace x (next_pace_of self.old x)) × (self.new.next_pace ≡ self.old.next_pace) }
+        ensures now { (z : ℕ) → pace_of self.new z ≡ put x (next_pace_of self.old x) (pace_of self.old) z }
+        ensures next { (z : ℕ) → next_pace_of self.new z ≡ next_pace_of self.old z }
     {
-        let i = x as usize;
-        self.states[i] = PartState::Rising;
-        self.tried[i] = 0;
         self.left -= 1;
-        self.pace[i] = self.next_pace[i];
+        let part = self.parts[x as usize];
+        self.parts[x as usize] = SimPart {
+            state: PartState::Rising(()),
+            tried: 0,
+            pace: part.next_pace,
+            ..part
+        };
     }
 
     // Whether it is good is a matter of its pace.
     fn good(&mut self, x: u32) -> bool
         requires { (0 < (board_of self.old).left) × ((x < (board_of self.old).parts) × (T (is_rising ((board_of self.old).part x)))) }
         ensures does { Tries (board_of self.old) x result (board_of self.new) }
-        ensures paces { (result ≡ ready (pace_of self.old x)) × (self.new.pace ≡ (if result then self.old.pace else slice_set self.old.pace x (waited (pace_of self.old x)))) × (self.new.next_pace ≡ self.old.next_pace) }
+        ensures is { result ≡ ready (pace_of self.old x) }
+        ensures now { (z : ℕ) → pace_of self.new z ≡ (if result then pace_of self.old z else put x (waited (pace_of self.old x)) (pace_of self.old) z) }
+        ensures next { (z : ℕ) → next_pace_of self.new z ≡ next_pace_of self.old z }
     {
-        let i = x as usize;
         self.left -= 1;
-        let pace = self.pace[i];
-        if is_ready(pace) {
-            self.states[i] = PartState::On(Level { n: 1 });
+        let part = self.parts[x as usize];
+        if is_ready(part.pace) {
+            self.parts[x as usize] = SimPart {
+                state: PartState::On(Level { n: 1 }),
+                ..part
+            };
             return true;
         }
-        self.pace[i] = after_asking(pace);
-        self.tried[i] = one_more(self.tried[i]);
+        self.parts[x as usize] = SimPart {
+            tried: one_more(part.tried),
+            pace: after_asking(part.pace),
+            ..part
+        };
         false
     }
 
@@ -76,9 +89,12 @@ impl Parts for Sim {
         ensures does { board_of self.new ≡ lowered x (board_of self.old) }
         ensures paces { SamePaces self.old self.new }
     {
-        self.states[x as usize] = PartState::Off;
-        self.tried[x as usize] = 0;
         self.left -= 1;
+        let part = self.parts[x as usize].anew();
+        self.parts[x as usize] = SimPart {
+            state: PartState::Off,
+            ..part
+        };
     }
 
     fn level(&mut self, x: u32, v: u32)
@@ -86,7 +102,11 @@ impl Parts for Sim {
         ensures does { board_of self.new ≡ levelled x v (board_of self.old) }
         ensures paces { SamePaces self.old self.new }
     {
-        self.states[x as usize] = PartState::On(Level { n: v });
         self.left -= 1;
+        let part = self.parts[x as usize];
+        self.parts[x as usize] = SimPart {
+            state: PartState::On(Level { n: v }),
+            ..part
+        };
     }
 }

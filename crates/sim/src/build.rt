@@ -1,5 +1,5 @@
 // Plans are built part by part, and parts need by need.
-ghost use Rattle.std.specs.Prelude.{◌≡◌, ◌+◌, ◌<◌, [], ◌∷◌, ◌++◌, length, replicate, MatchResult, slice_index};
+ghost use Rattle.std.specs.Prelude.{◌≡◌, ◌+◌, ◌<◌, [], ◌∷◌, ◌++◌, length, map, replicate, MatchResult, slice_index};
 ghost use Rattle.power.specs.Board.{put};
 ghost use Rattle.sim.specs.Plans.{need_of, needs_of, needs_at, draw_of, draws_at, Tells};
 
@@ -34,6 +34,13 @@ impl PlanPart {
         Ok(())
     }
 
+    // What it needs.
+    pub fn needs(&self) -> &[PlanNeed]
+        ensures { map need_of result.now ≡ needs_of self.now }
+    {
+        &self.needs[..self.count as usize]
+    }
+
     // It draws that, at each level.
     pub fn set_draw(&mut self, draw: [u32; 16])
         ensures { (needs_of self.new ≡ needs_of self.old) × (self.new.draw ≡ draw) }
@@ -58,11 +65,7 @@ impl Plan {
     pub fn needs(&self, x: u32) -> u32
         ensures { result ≡ length (needs_at self.now.part x) }
     {
-        if x < 64 {
-            self.part[x as usize].count
-        } else {
-            0
-        }
+        self.part.get(x as usize).map_or(0, |part| part.count)
     }
 
     // The kth of these.
@@ -70,9 +73,7 @@ impl Plan {
         requires { k < length (needs_at self.now.part x) }
         ensures { Tells (need_of result.now) k (needs_at self.now.part x) }
     {
-        let part = &self.part[x as usize];
-        let i = k as usize;
-        &part.needs[i]
+        &self.part[x as usize].needs()[k as usize]
     }
 
     // What part x draws at level l.
@@ -80,12 +81,9 @@ impl Plan {
         requires { l < 16 }
         ensures { result ≡ slice_index (draws_at self.now.part x) l }
     {
-        if x < 64 {
-            let part = &self.part[x as usize];
-            part.draw[l as usize]
-        } else {
-            0
-        }
+        self.part
+            .get(x as usize)
+            .map_or(0, |part| part.draw[l as usize])
     }
 
     // So much is given.

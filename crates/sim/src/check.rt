@@ -1,7 +1,8 @@
 // Whether a plan makes sense.
-ghost use Rattle.std.specs.Prelude.{◌≡◌, ◌<◌, not, ◌&&◌, length, nat_le};
-ghost use Rattle.power.specs.Board.{rising, good_need, good_draw, apart, all, every, good_plan};
-ghost use Rattle.sim.specs.Plans.{need_of, needs_of, board_for, is_new};
+ghost use Rattle.std.specs.Prelude.{◌≡◌, ◌<◌, not, ◌&&◌, length, map, ◌==◌, nat_le};
+ghost use Rattle.std.specs.List.{list_all};
+ghost use Rattle.power.specs.Board.{rising, good_need, good_draw, apart, all, good_plan};
+ghost use Rattle.sim.specs.Plans.{need_of, needs_of, needs_at, draws_at, board_for, sense};
 
 use super::plan::{Plan, PlanNeed, PlanPart};
 
@@ -9,12 +10,7 @@ use super::plan::{Plan, PlanNeed, PlanPart};
 fn rises(least: &[u32; 16]) -> bool
     ensures { result ≡ rising least.now }
 {
-    for i in 0..15 {
-        if least[i] > least[i + 1] {
-            return false;
-        }
-    }
-    true
+    least.is_sorted()
 }
 
 fn need_makes_sense(x: u32, need: &PlanNeed) -> bool
@@ -25,47 +21,35 @@ fn need_makes_sense(x: u32, need: &PlanNeed) -> bool
     need.on < x && up && least[0] == 0 && 1 <= least[1] && need.most <= 15
 }
 
-fn needs_make_sense(x: u32, part: &PlanPart) -> bool
-    ensures { result ≡ all (good_need x) (needs_of part.now) }
+fn needs_make_sense(x: u32, needs: &[PlanNeed]) -> bool
+    ensures { result ≡ list_all (λ n. good_need x (need_of n)) needs.now }
 {
-    for k in 0..part.count as usize {
-        if !need_makes_sense(x, &part.needs[k]) {
-            return false;
-        }
-    }
-    true
+    needs.iter().all(|need| need_makes_sense(x, need))
 }
 
-// The ith need goes to another part than those before it.
-fn is_new(part: &PlanPart, i: usize) -> bool
-    requires { i < part.now.count }
-    ensures { result ≡ is_new part.now.needs i }
+// None of these goes to the part that a need goes to.
+fn is_new(need: &PlanNeed, others: &[PlanNeed]) -> bool
+    ensures { result ≡ list_all (λ m. not (m.on == need.now.on)) others.now }
 {
-    for j in 0..i {
-        let this = &part.needs[i];
-        let other = &part.needs[j];
-        if this.on == other.on {
-            return false;
-        }
-    }
-    true
+    others.iter().all(|other| other.on != need.on)
 }
 
-fn are_apart(part: &PlanPart) -> bool
-    ensures { result ≡ apart (needs_of part.now) }
+// Each goes to another part.
+#[tactic(auto, using(crate::proofs::Sensible::apart_none, crate::proofs::Sensible::apart_more))]
+fn are_apart(needs: &[PlanNeed]) -> bool
+    ensures { result ≡ apart (map need_of needs.now) }
 {
-    for i in 0..part.count as usize {
-        if !is_new(part, i) {
-            return false;
-        }
+    match needs.split_first() {
+        None => true,
+        Some((first, others)) => is_new(first, others) && are_apart(others),
     }
-    true
 }
 
 fn all_needs_make_sense(x: u32, part: &PlanPart) -> bool
     ensures { result ≡ (all (good_need x) (needs_of part.now) && apart (needs_of part.now) && nat_le (length (needs_of part.now)) 4) }
 {
-    needs_make_sense(x, part) && are_apart(part)
+    let needs = part.needs();
+    needs_make_sense(x, needs) && are_apart(needs)
 }
 
 fn draw_makes_sense(part: &PlanPart) -> bool
@@ -76,20 +60,22 @@ fn draw_makes_sense(part: &PlanPart) -> bool
 }
 
 fn part_makes_sense(x: u32, part: &PlanPart) -> bool
-    ensures { result ≡ (all (good_need x) (needs_of part.now) && apart (needs_of part.now) && nat_le (length (needs_of part.now)) 4 && good_draw part.now.draw) }
+    ensures { result ≡ sense x (needs_of part.now) part.now.draw }
 {
     all_needs_make_sense(x, part) && draw_makes_sense(part)
 }
 
 impl Plan {
+    fn part_makes_sense(&self, x: u32) -> bool
+        requires { x < self.now.parts }
+        ensures { result ≡ sense x (needs_at self.now.part x) (draws_at self.now.part x) }
+    {
+        part_makes_sense(x, &self.part[x as usize])
+    }
+
     pub fn makes_sense(&self) -> bool
         ensures { result ≡ good_plan (board_for self.now) }
     {
-        for x in 0..self.parts {
-            if !part_makes_sense(x, &self.part[x as usize]) {
-                return false;
-            }
-        }
-        true
+        (0..self.parts).all(|x| self.part_makes_sense(x))
     }
 }

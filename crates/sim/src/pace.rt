@@ -1,39 +1,26 @@
 // Parts that rise slowly or never.
-ghost use Rattle.std.specs.Prelude.{◌≡◌, ◌+◌, ◌<◌, ◌≤◌, if◌then◌else◌, nat_lt, slice_set};
+ghost use Rattle.std.specs.Prelude.{◌≡◌, ℕ, ◌<◌, Some, None};
+ghost use Rattle.power.specs.Board.{put};
 ghost use Rattle.sim.specs.Boards.{board_of};
-ghost use Rattle.sim.specs.Paces.{ready, waited, GoodAtTheNth};
-ghost use Rattle.sim.specs.declared.state.Pace.TheVariants.{At, Never};
+ghost use Rattle.sim.specs.Paces.{ready, waited, pace_of, next_pace_of, GoodAtTheNth};
 
-use super::state::{Pace, Sim};
+use super::state::{Sim, SimPart};
 
 // Is a part at this pace good when it's asked now?
-pub(crate) fn is_ready(pace: Pace) -> bool
+pub(crate) fn is_ready(pace: Option<u32>) -> bool
     ensures { result ≡ ready pace }
 {
-    match pace {
-        Pace::At(n) => n <= 1,
-        Pace::Never => false,
-    }
+    pace.is_some_and(|n| n <= 1)
 }
 
 // The pace of a part that was asked and wasn't good.
-pub(crate) fn after_asking(pace: Pace) -> Pace
+pub(crate) fn after_asking(pace: Option<u32>) -> Option<u32>
     ensures { result ≡ waited pace }
 {
-    match pace {
-        Pace::At(n) => Pace::At(n.saturating_sub(1)),
-        Pace::Never => Pace::Never,
-    }
+    pace.map(|n| n.saturating_sub(1))
 }
 
-// How often a part was tried, once more, up to 64.
-pub(crate) fn one_more(tried: u32) -> u32
-    ensures { result ≡ (if nat_lt tried 64 then tried + 1 else 64) }
-{
-    if tried < 64 { tried + 1 } else { 64 }
-}
-
-// What `At(n)` means.
+// What the pace `Some(n)` means.
 pub fn good_at_the_nth() -> u8
     ensures { GoodAtTheNth }
 {
@@ -45,18 +32,28 @@ impl Sim {
     pub fn slow(&mut self, x: u32, n: u32)
         requires part { x < (board_of self.old).parts }
         ensures same { board_of self.new ≡ board_of self.old }
-        ensures paces { (self.new.pace ≡ self.old.pace) × (self.new.next_pace ≡ slice_set self.old.next_pace x (At n)) }
+        ensures now { (z : ℕ) → pace_of self.new z ≡ pace_of self.old z }
+        ensures next { (z : ℕ) → next_pace_of self.new z ≡ put x (Some n) (next_pace_of self.old) z }
     {
-        self.next_pace[x as usize] = Pace::At(n);
+        let part = self.parts[x as usize];
+        self.parts[x as usize] = SimPart {
+            next_pace: Some(n),
+            ..part
+        };
     }
 
     // From now on part x isn't good when it's asked.
     pub fn bad(&mut self, x: u32)
         requires part { x < (board_of self.old).parts }
         ensures same { board_of self.new ≡ board_of self.old }
-        ensures paces { (self.new.pace ≡ slice_set self.old.pace x Never) × (self.new.next_pace ≡ slice_set self.old.next_pace x Never) }
+        ensures now { (z : ℕ) → pace_of self.new z ≡ put x None (pace_of self.old) z }
+        ensures next { (z : ℕ) → next_pace_of self.new z ≡ put x None (next_pace_of self.old) z }
     {
-        self.pace[x as usize] = Pace::Never;
-        self.next_pace[x as usize] = Pace::Never;
+        let part = self.parts[x as usize];
+        self.parts[x as usize] = SimPart {
+            pace: None,
+            next_pace: None,
+            ..part
+        };
     }
 }

@@ -1,8 +1,12 @@
 // A plan as it is written down: what each part needs and draws, and what the board gives. Whether it makes sense is another matter.
-ghost use Rattle.std.specs.Prelude.{◌≡◌, ◌≤◌, length};
+ghost use Rattle.std.specs.Prelude.{◌≡◌, ◌≤◌, length, Some};
+ghost use Rattle.sim.specs.Faults.{text_of};
+
+use std::error::Error;
+use std::fmt;
 
 // Part `on` is needed: at level l at least at `least[l]`, and at most at `most`.
-#[derive(Clone, Copy)]
+#[derive(Clone, Copy, Debug, PartialEq, Eq)]
 pub struct PlanNeed {
     pub on: u32,
     pub least: [u32; 16],
@@ -11,7 +15,8 @@ pub struct PlanNeed {
 }
 
 // What one part needs: the first `count` of these; and what it draws at level l: `draw[l]`.
-#[derive(Clone, Copy)]
+// An array and a count, here and in a plan: a plan is copied without a heap, which the kit's vector of a fixed room is not.
+#[derive(Clone, Copy, Debug, PartialEq, Eq)]
 pub struct PlanPart {
     pub count: u32,
     pub needs: [PlanNeed; 4],
@@ -22,7 +27,7 @@ pub struct PlanPart {
 }
 
 // The first `parts` of these, and what all of them may draw together.
-#[derive(Clone, Copy)]
+#[derive(Clone, Copy, Debug, PartialEq, Eq)]
 pub struct Plan {
     pub parts: u32,
     pub part: [PlanPart; 64],
@@ -32,7 +37,7 @@ pub struct Plan {
 }
 
 // Why a plan is refused.
-#[derive(Clone, Copy)]
+#[derive(Clone, Copy, Debug, PartialEq, Eq)]
 pub enum PlanFault {
     // a 65th part
     TooManyParts,
@@ -42,3 +47,17 @@ pub enum PlanFault {
     // draws that fall, or are not 0 at 0
     Senseless,
 }
+
+impl fmt::Display for PlanFault {
+    ghost output = { λ e. Some (text_of e) };
+
+    fn fmt<W: fmt::Write>(&self, f: &mut fmt::Formatter<W>) -> fmt::Result {
+        f.write_str(match self {
+            PlanFault::TooManyParts => "the plan has more than 64 parts",
+            PlanFault::TooManyNeeds => "a part has more than four needs",
+            PlanFault::Senseless => "the plan makes no sense",
+        })
+    }
+}
+
+impl Error for PlanFault {}

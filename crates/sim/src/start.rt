@@ -4,7 +4,16 @@ ghost use Rattle.sim.specs.Boards.{board_of};
 ghost use Rattle.sim.specs.Starts.{Started};
 
 use super::plan::{Plan, PlanFault};
-use super::state::{Pace, PartState, Sim, Wanted};
+use super::state::{Sim, SimPart};
+use power::state::{PartState, Wanted};
+
+// A part that is off, and good when it's first asked.
+const AT_FIRST: SimPart = SimPart {
+    state: PartState::Off,
+    tried: 0,
+    pace: Some(1),
+    next_pace: Some(1),
+};
 
 impl Sim {
     // All is off, nobody wants anything, and every part is good when it's first asked.
@@ -16,13 +25,10 @@ impl Sim {
         }
         Ok(Sim {
             plan,
-            states: [PartState::Off; 64],
-            tried: [0; 64],
+            parts: [AT_FIRST; 64],
             wishes: [Wanted::Nothing; 32],
             quiet: 0,
             left: 1024,
-            pace: [Pace::At(1); 64],
-            next_pace: [Pace::At(1); 64],
         })
     }
 }

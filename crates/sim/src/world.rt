@@ -4,8 +4,11 @@ ghost use Rattle.power.specs.Board.{with_wish, is_six, why, called, may_tell, to
 ghost use Rattle.sim.specs.Boards.{board_of, wish_of, anew};
 ghost use Rattle.sim.specs.Paces.{SamePaces};
 
-use super::state::{Sim, Wanted};
-use super::wishes::let_tick_pass;
+use super::state::{Sim, SimPart};
+use super::wishes::{let_tick_pass, once_told};
+use power::counts::one_more;
+use power::not_done::NotDone;
+use power::state::{Request, Wanted};
 use power::types::{Level, PartId};
 use power::{Answer, Call, Next, World};
 
@@ -15,12 +18,23 @@ fn is_six(a: Answer) -> bool
 {
     match a {
         Answer::Done => false,
-        Answer::No(k) => k == 6,
+        Answer::No(k) => k == u32::from(NotDone::NotGood),
+    }
+}
+
+impl SimPart {
+    // The same part, tried anew.
+    pub(crate) fn anew(self) -> SimPart
+        ensures state { result.state ≡ self.state }
+        ensures tried { result.tried ≡ 0 }
+        ensures paces { (result.pace ≡ self.pace) × (result.next_pace ≡ self.next_pace) }
+    {
+        SimPart { tried: 0, ..self }
     }
 }
 
 impl Sim {
-    fn set_wish(&mut self, u: u32, w: Wanted)
+    fn set_wish(&mut self, u: u32, w: Wanted<u32>)
         requires user { u < 32 }
         ensures does { board_of self.new ≡ with_wish u (wish_of w) (board_of self.old) }
         ensures paces { SamePaces self.old self.new }
@@ -33,7 +47,9 @@ impl Sim {
         ensures does { board_of self.new ≡ anew (board_of self.old) }
         ensures paces { SamePaces self.old self.new }
     {
-        self.tried = [0; 64];
+        for part in self.parts.iter_mut() {
+            *part = part.anew();
+        }
     }
 }
 
@@ -51,10 +67,13 @@ impl World for Sim {
             return;
         }
         match c {
-            Call::Want(u, x, l) => self.set_wish(
-                u,
-                Wanted::Asked(PartId { n: x }, Level { n: l }, 0),
-            ),
+            Call::Want(u, x, l) => {
+                let request = Request {
+                    part: PartId { n: x },
+                    level: Level { n: l },
+                };
+                self.set_wish(u, Wanted::Asked(request, 0));
+            }
             Call::Give(u) => self.set_wish(u, Wanted::Nothing),
         }
     }
@@ -65,7 +84,7 @@ impl World for Sim {
         ensures paces { SamePaces self.old self.new }
     {
         let w = self.wishes[u as usize];
-        self.set_wish(u, w.once_told(a));
+        self.set_wish(u, once_told(w, a));
         if is_six(a) {
             self.try_anew();
         }
@@ -77,13 +96,7 @@ impl World for Sim {
         ensures paces { SamePaces self.old self.new }
     {
         let waiting = let_tick_pass(&mut self.wishes);
-        self.quiet = if waiting {
-            0
-        } else if self.quiet < 64 {
-            self.quiet + 1
-        } else {
-            64
-        };
+        self.quiet = if waiting { 0 } else { one_more(self.quiet) };
         self.left = 1024;
     }
 }

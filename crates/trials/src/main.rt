@@ -12,29 +12,12 @@ use sim::state::Sim;
 use std::io;
 
 // What came of the trials.
-#[derive(Clone, Copy)]
+#[derive(Clone, Copy, Default)]
 struct Count {
     can: u32,
     cannot: u32,
     differ: u32,
     senseless: u32,
-}
-
-// Are these the same levels, for the first 64 parts?
-fn same(ls: &Levels, found: &[u32; 64]) -> bool {
-    for n in 0..64 {
-        if ls.get(PartId { n }) != found[n as usize] {
-            return false;
-        }
-    }
-    true
-}
-
-fn agrees(ls: &Levels, found: &Option<[u32; 64]>) -> bool {
-    match found {
-        Some(f) => same(ls, f),
-        None => false,
-    }
 }
 
 // One plan, with some wants.
@@ -55,7 +38,7 @@ fn trial(r: &mut Random, count: &mut Count) {
     let agree = match least(&sim, &want) {
         Ok(ls) => {
             count.can = count.can.saturating_add(1);
-            agrees(&ls, &found)
+            found == Some(ls.of)
         }
         Err(_) => {
             count.cannot = count.cannot.saturating_add(1);
@@ -69,12 +52,7 @@ fn trial(r: &mut Random, count: &mut Count) {
 
 fn main(rt: HostRuntime) -> io::Result<()> {
     let mut r = Random { state: 1 };
-    let mut count = Count {
-        can: 0,
-        cannot: 0,
-        differ: 0,
-        senseless: 0,
-    };
+    let mut count = Count::default();
     for _ in 0..600 {
         trial(&mut r, &mut count);
     }

@@ -28,8 +28,8 @@ impl Random {
 fn random_least(r: &mut Random) -> [u32; 16] {
     let mut least = [0u32; 16];
     let mut level = 1;
-    for i in 1..16 {
-        least[i] = level;
+    for least in least.iter_mut().skip(1) {
+        *least = level;
         if r.below(4) == 0 {
             level = r.below(3).saturating_add(level);
         }
@@ -61,21 +61,15 @@ fn random_need(r: &mut Random, x: u32) -> PlanNeed
 
 // Does it need that one already?
 fn has(part: &PlanPart, on: u32) -> bool {
-    for k in 0..part.count as usize {
-        let need = &part.needs[k];
-        if need.on == on {
-            return true;
-        }
-    }
-    false
+    part.needs().iter().any(|need| need.on == on)
 }
 
 // Draws that never fall, for the most part.
 fn random_draw(r: &mut Random) -> [u32; 16] {
     let mut draw = [0u32; 16];
     let mut sum = r.below(3);
-    for i in 1..16 {
-        draw[i] = sum;
+    for draw in draw.iter_mut().skip(1) {
+        *draw = sum;
         sum = r.below(3).saturating_add(sum);
     }
     if r.below(200) == 0 {

@@ -1,15 +1,30 @@
 // The lowest levels that serve, found by trying: from all off, a part that is too low goes up by one, until none is.
-use power::types::{Levels, PartId};
-use sim::plan::Plan;
+use power::types::Levels;
+use sim::plan::{Plan, PlanNeed, PlanPart};
+
+// The part that is needed is lower than a part at this level needs it.
+fn is_too_low(need: &PlanNeed, level: u32, f: &[u32; 64]) -> bool {
+    match (f.get(need.on as usize), need.least.get(level as usize)) {
+        (Some(is), Some(least)) => is < least,
+        _ => false,
+    }
+}
+
+// A need of a part at this level that is too low for it.
+fn need_too_low(part: &PlanPart, level: u32, f: &[u32; 64]) -> Option<usize> {
+    let need = part.needs().iter().find(|need| is_too_low(need, level, f))?;
+    Some(need.on as usize)
+}
 
 // A part that is lower than it's wanted, or than what a part that isn't off needs.
 fn too_low(plan: &Plan, want: &Levels, f: &[u32; 64]) -> Option<usize> {
-    for x in 0..plan.parts as usize {
-        if f[x] < want.get(PartId { n: x as u32 }) {
+    let parts = &plan.part[..plan.parts as usize];
+    for (x, ((part, level), wanted)) in parts.iter().zip(f).zip(&want.of).enumerate() {
+        if level < wanted {
             return Some(x);
         }
-        if f[x] > 0 {
-            let low = needs_too_low(plan, x, f);
+        if *level > 0 {
+            let low = need_too_low(part, *level, f);
             if low.is_some() {
                 return low;
             }
@@ -18,49 +33,19 @@ fn too_low(plan: &Plan, want: &Levels, f: &[u32; 64]) -> Option<usize> {
     None
 }
 
-// A need of x that is too low for x.
-fn needs_too_low(plan: &Plan, x: usize, f: &[u32; 64]) -> Option<usize> {
-    if x >= 64 || f[x] >= 16 {
-        return None;
-    }
-    let part = &plan.part[x];
-    for k in 0..part.count as usize {
-        let need = &part.needs[k];
-        let on = need.on as usize;
-        if on < 64 && f[on] < need.least[f[x] as usize] {
-            return Some(on);
-        }
-    }
-    None
+// No need of a part is higher than the part allows.
+fn within(part: &PlanPart, f: &[u32; 64]) -> bool {
+    part.needs().iter().all(|need| match f.get(need.on as usize) {
+        Some(level) => *level <= need.most,
+        None => true,
+    })
 }
 
-// No need of x is higher than x allows.
-fn within(plan: &Plan, x: usize, f: &[u32; 64]) -> bool {
-    if x >= 64 || f[x] == 0 {
-        return true;
-    }
-    let part = &plan.part[x];
-    for k in 0..part.count as usize {
-        let need = &part.needs[k];
-        let on = need.on as usize;
-        if on < 64 && f[on] > need.most {
-            return false;
-        }
-    }
-    true
-}
-
-// What all parts draw at these levels.
-fn drawn(plan: &Plan, f: &[u32; 64]) -> u64 {
-    let mut sum: u64 = 0;
-    for x in 0..plan.parts as usize {
-        let l = f[x];
-        if l < 16 {
-            let draw = plan.part[x].draw;
-            sum = sum.saturating_add(draw[l as usize] as u64);
-        }
-    }
-    sum
+// What a part draws at this level.
+fn draw(part: &PlanPart, level: u32) -> u64 {
+    part.draw
+        .get(level as usize)
+        .map_or(0, |draw| u64::from(*draw))
 }
 
 // The levels, or none where one would have to be above 15, or above what a part allows, or more is drawn than is given.
@@ -73,12 +58,14 @@ pub fn lowest(plan: &Plan, want: &Levels) -> Option<[u32; 64]> {
             None => break,
         }
     }
-    for x in 0..plan.parts as usize {
-        if !within(plan, x, &f) {
+    let mut drawn: u64 = 0;
+    for (part, level) in plan.part[..plan.parts as usize].iter().zip(&f) {
+        if *level > 0 && !within(part, &f) {
             return None;
         }
+        drawn = drawn.saturating_add(draw(part, *level));
     }
-    if drawn(plan, &f) > plan.gives as u64 {
+    if drawn > u64::from(plan.gives) {
         return None;
     }
     Some(f)

@@ -1,7 +1,7 @@
 -- One more need, and `and`.
-use Rattle.std.proofs.Common.{[], ◌∷◌, ◌++◌, sym}
+use Rattle.std.proofs.Common.{[], ◌∷◌, ◌++◌, codes, arith}
+use Rattle.std.proofs.lemmas.Slice.Eq.{text_from_reads}
 use Rattle.script.specs.Lines.{needs}
-use Rattle.script.specs.Text.{words_of}
 use Rattle.script.proofs.Listed.{follow_more}
 use Rattle.script.proofs.needs.all_needs.Goals as goal
 
@@ -9,5 +9,4 @@ pub loop-one-preserved : goal.loop-one-preserved
 loop-one-preserved c =
     let inv = c.loop-one.invariant in
     let n = c.in_ok-one.ensures in
-    let a = c.in-Some.ensures in
-    (inv.0 ++ n.0 ∷ [], c.push.ensures inv.0 n.0 inv.1 n.1, follow_more inv.0 n.0 (words_of c.loop-one.words.rest.now) (words_of c.need.new.words.rest.now) (words_of c.next.new.self.rest.now) c.in-Some.word.now (needs (words_of c.args.words.now.rest.now)) inv.2 n.2 a.0 (sym c.if-not-is_word.ensures))
+    (inv.0 ++ n.0 ∷ [], c.with_need-part.ensures inv.0 n.0 inv.1 n.1, follow_more inv.0 n.0 c.loop-one.words c.need.new.words c.next.new.self c.in-Some-and.field-0.now (needs c.args.words.now) inv.2 n.2 c.in-Some-and.ensures.steps (text_from_reads c.in-Some-and.field-0.now (codes "and") (omega arith) (omega arith, (omega arith, (omega arith, tt)))))

@@ -1,36 +1,44 @@
 -- A need is read word by word.
-use Rattle.std.proofs.Common.{[], ◌∷◌, ◌∙◌, arith}
+use Rattle.std.proofs.Common.{Some, None, codes, length, ap, ◌∙◌, arith}
 use Rattle.std.proofs.lemmas.Result.{err_from_is_err_and}
-use Rattle.script.specs.Text.{words_of}
-use Rattle.script.proofs.Listed.{needs_levels, most_is, most_lacks}
+use Rattle.script.proofs.Listed.{need_begins, to_left, levels_end, most_begins, most_is, most_lacks}
 use Rattle.script.proofs.needs.need.Goals as goal
 
-pub returns-in_err-more_levels : goal.returns-in_err-more_levels
-returns-in_err-more_levels c =
-    let p = err_from_is_err_and c.from_residual-in_err-more_levels.result c.from_residual-in_err-more_levels.ensures.1 in
-    let on = c.in_ok-on.on in
-    let l = c.in_ok-least.least in
+pub returns-in_err-levels : goal.returns-in_err-levels
+returns-in_err-levels c =
+    let p = err_from_is_err_and c.from_residual-in_err-levels.result c.from_residual-in_err-levels.ensures.1 in
     let k = c.in_ok-keyword.ensures in
-    rw p.1 (needs_levels on l k.0 (words_of c.args.words.now.rest.now) (words_of c.number.new.words.rest.now) (words_of c.keyword.new.words.rest.now) (words_of c.number-2.new.words.rest.now) c.in_ok-on.ensures.0 k.1 k.2 c.in_ok-least.ensures.0 ∙ c.in_err-more_levels.ensures.reads (l ∷ []) (c.push.ensures [] c.none-read.ensures) on)
+    rw p.1 (need_begins c.in_ok-on.on k.0 c.args.words.now c.number.new.self c.keyword.new.self None c.in_ok-on.ensures k.1 k.2 c.in_err-levels.ensures)
+
+pub returns-in_err-keyword-2 : goal.returns-in_err-keyword-2
+returns-in_err-keyword-2 c =
+    let p = err_from_is_err_and c.from_residual-in_err-keyword-2.result c.from_residual-in_err-keyword-2.ensures.1 in
+    let k = c.in_ok-keyword.ensures in
+    let l = c.in_ok-levels.ensures in
+    let s = to_left (codes "most") c.keyword.new.self l.0 c.read.new.words l.1 in
+    rw p.1 (need_begins c.in_ok-on.on k.0 c.args.words.now c.number.new.self c.keyword.new.self (Some (l.0, c.read.new.words)) c.in_ok-on.ensures k.1 k.2 l.1
+    ∙ levels_end c.in_ok-on.on l.0 c.read.new.words s.0 c.in_err-keyword-2.ensures)
 
 pub returns-in_err-most : goal.returns-in_err-most
 returns-in_err-most c =
     let p = err_from_is_err_and c.from_residual-in_err-most.result c.from_residual-in_err-most.ensures.1 in
-    let on = c.in_ok-on.on in
-    let l = c.in_ok-least.least in
     let k = c.in_ok-keyword.ensures in
-    let m = c.in_ok-more_levels.ensures.reads (l ∷ []) (c.push.ensures [] c.none-read.ensures) in
-    rw p.1 (needs_levels on l k.0 (words_of c.args.words.now.rest.now) (words_of c.number.new.words.rest.now) (words_of c.keyword.new.words.rest.now) (words_of c.number-2.new.words.rest.now) c.in_ok-on.ensures.0 k.1 k.2 c.in_ok-least.ensures.0 ∙ m.2 on ∙ most_lacks on m.0 (words_of c.more_levels.new.words.rest.now) c.in_err-most.ensures)
+    let l = c.in_ok-levels.ensures in
+    let m = c.in_ok-keyword-2.ensures in
+    rw p.1 (need_begins c.in_ok-on.on k.0 c.args.words.now c.number.new.self c.keyword.new.self (Some (l.0, c.read.new.words)) c.in_ok-on.ensures k.1 k.2 l.1
+    ∙ most_begins c.in_ok-on.on l.0 m.0 c.read.new.words c.keyword-2.new.self m.1 m.2 ∙ most_lacks c.in_ok-on.on l.0 c.keyword-2.new.self c.in_err-most.ensures)
 
 pub returns : goal.returns
 returns c =
     let on = c.in_ok-on.on in
-    let l = c.in_ok-least.least in
     let k = c.in_ok-keyword.ensures in
-    let m = c.in_ok-more_levels.ensures.reads (l ∷ []) (c.push.ensures [] c.none-read.ensures) in
-    let n = c.in_ok-most.most in (
-      record { on = on; levels = m.0; most = n },
-      c.need.ensures m.0 m.1,
-      needs_levels on l k.0 (words_of c.args.words.now.rest.now) (words_of c.number.new.words.rest.now) (words_of c.keyword.new.words.rest.now) (words_of c.number-2.new.words.rest.now) c.in_ok-on.ensures.0 k.1 k.2 c.in_ok-least.ensures.0 ∙ m.2 on ∙ most_is on n m.0 (words_of c.more_levels.new.words.rest.now) (words_of c.number-3.new.words.rest.now) c.in_ok-most.ensures.0,
-      omega (arith, c.in_ok-on.ensures.1, k.3, c.in_ok-least.ensures.1, c.in_ok-more_levels.ensures.shorter, c.in_ok-most.ensures.1),
+    let l = c.in_ok-levels.ensures in
+    let m = c.in_ok-keyword-2.ensures in
+    let n = c.in_ok-most.most in
+    let s = to_left (codes "most") c.keyword.new.self l.0 c.read.new.words l.1 in (
+      record { on = on; levels = l.0; most = n },
+      c.plan_need.ensures l.0 l.2,
+      need_begins on k.0 c.args.words.now c.number.new.self c.keyword.new.self (Some (l.0, c.read.new.words)) c.in_ok-on.ensures k.1 k.2 l.1
+          ∙ most_begins on l.0 m.0 c.read.new.words c.keyword-2.new.self m.1 m.2 ∙ most_is on n l.0 c.keyword-2.new.self c.number-2.new.self c.in_ok-most.ensures,
+      omega (arith, ap length c.in_ok-on.ensures.front, ap length k.1, s.1, ap length m.1, ap length c.in_ok-most.ensures.front),
     )

@@ -1,48 +1,34 @@
--- Those below u are older, and the flag says whether one of them was asked.
-use Rattle.std.proofs.Common.{◌≡◌, ℕ, ◌<◌, Bool, length, get_or, sym, refl, ap, ◌∙◌, arith, length-set}
-use Rattle.std.proofs.lemmas.List.{get_or_default}
-use Rattle.power.specs.Board.{Wish, some', is_asked, older, young}
-use Rattle.sim.specs.declared.state.Wanted.TheVariants.{Nothing}
+-- Those so far are older, and the others as they were.
+use Rattle.std.proofs.Common.{◌<◌, ◌≤◌, length, sym, ap, ◌∙◌, ⊎_elim, arith, rules}
+use Rattle.std.proofs.lemmas.Iterator.{YieldsList-from_slice}
+use Rattle.std.proofs.lemmas.Iterator.Search.{any_from_yields_List}
+use Rattle.std.proofs.lemmas.Bool.{cases_lt}
+use Rattle.std.proofs.lemmas.List.{get_or_default, get_or_past}
+use Rattle.power.specs.Board.{young, older, is_asked}
+use Rattle.power.specs.declared.state.Wanted.TheVariants.{Nothing}
 use Rattle.sim.specs.Boards.{wish_of}
-use Rattle.sim.proofs.Aging.{grown_none, grown_more, grown_all, grown_here, some_more, or_true, or_false}
+use Rattle.sim.proofs.Aging.{some_listed}
 use Rattle.sim.proofs.wishes.let_tick_pass.Goals as goal
-use Rattle.sim.proofs.wishes.let_tick_pass.Goals.{then-is_asked, else-is_asked}
-
-pub loop-u-init : goal.loop-u-init
-unfolding some'
-loop-u-init c = (omega arith, refl, grown_none (λ k. wish_of (get_or c.args.wishes.now k Nothing)))
-
-pub loop-u-preserved : goal.loop-u-preserved
-loop-u-preserved c =
-    let w : ℕ → Wish = λ k. wish_of (get_or c.args.wishes.now k Nothing) in
-    let f : ℕ → Bool = λ k. is_asked (w k) in
-    let u = c.loop-u.u in
-    let i = c.loop-u.invariant in
-    let h : u < length c.loop-u.wishes = omega (arith, i.0) in
-    let here : wish_of (get_or c.loop-u.wishes u c.index-wishes-u.result) ≡ w u =
-    ap wish_of (get_or_default c.loop-u.wishes u c.index-wishes-u.result Nothing h) ∙ i.2 u ∙ grown_here u w in
-    let is : c.is_asked.result ≡ f u = c.is_asked.ensures ∙ ap is_asked here in (
-      rw length-set i.0,
-      some_more f u c.if-is_asked.waiting
-          (elim c.if-is_asked.branch [
-            | then-is_asked t ↦ t.waiting-is ∙ or_true (some' u f) (f u) (sym is ∙ t.if-is_asked.true)
-            | else-is_asked t ↦ t.waiting-is ∙ i.1 ∙ or_false (some' u f) (f u) (sym is ∙ t.if-is_asked.false)
-          ]),
-      grown_more c.loop-u.wishes u w c.a_tick_older.result (omega (arith, i.0)) (c.a_tick_older.ensures ∙ ap older here) i.2,
-    )
 
 pub a_tick_older-requires : goal.a_tick_older-requires
 a_tick_older-requires c =
-    let w : ℕ → Wish = λ k. wish_of (get_or c.args.wishes.now k Nothing) in
-    let h : c.loop-u.u < length c.loop-u.wishes = omega (arith, c.loop-u.invariant.0) in
-    ap young (ap wish_of (get_or_default c.loop-u.wishes c.loop-u.u c.index-wishes-u.result Nothing h) ∙ c.loop-u.invariant.2 c.loop-u.u ∙ grown_here c.loop-u.u w) ∙ c.requires c.loop-u.u c.loop-u-test.true
+    let l = c.loop-wanted in
+    let h : l.wanted-index < length l.wishes = omega (arith, l.invariant.0) in
+    ap (λ w. young (wish_of w)) (get_or_default l.wishes l.wanted-index c.wanted-item.result Nothing h ∙ l.invariant.2 l.wanted-index (omega arith)) ∙ c.requires l.wanted-index c.loop-wanted-test.true
 
-pub returns : goal.returns
-returns c =
-    let e : c.loop-u.u ≡ 32 = omega arith in
-    let w : ℕ → Wish = λ k. wish_of (get_or c.args.wishes.now k Nothing) in
-    record {
-      asked = c.loop-u.invariant.1 ∙ ap (λ n. some' n (λ k. is_asked (w k))) e;
-      long = c.loop-u.invariant.0;
-      each = λ k. c.loop-u.invariant.2 k ∙ grown_all c.args.wishes.now c.loop-u.u (omega arith) k;
-    }
+pub returns-clause-asked : goal.returns-clause-asked
+returns-clause-asked c =
+    let ws = c.args.wishes.now in
+    any_from_yields_List (λ w. is_asked (wish_of w)) _ _ c.any-waiting.result c.any-waiting.ensures.ran (YieldsList-from_slice ws c.iter.ensures.rest) (λ w b q k. search rules)
+    ∙ some_listed (λ w. is_asked (wish_of w)) Nothing ws 32 (omega arith)
+
+pub returns-clause-each : goal.returns-clause-each
+unfolding older
+returns-clause-each c k =
+    let l = c.loop-wanted in
+    ⊎_elim (λ (h : k < 32). l.invariant.1 k (omega arith))
+    (λ (h : 32 ≤ k).
+    let u : length l.wishes ≤ k = omega (arith, l.invariant.0) in
+    let v : length c.args.wishes.now ≤ k = omega arith in
+    ap wish_of (get_or_past l.wishes k Nothing u) ∙ sym (ap (λ w. older (wish_of w)) (get_or_past c.args.wishes.now k Nothing v)))
+    (cases_lt k 32)

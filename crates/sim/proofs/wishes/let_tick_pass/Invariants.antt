@@ -1,10 +1,12 @@
-use Rattle.std.proofs.Common.{◌≡◌, ℕ, cond, ltb, length, get_or}
-use Rattle.power.specs.Board.{older, is_asked, some'}
-use Rattle.sim.specs.declared.state.Wanted.TheVariants.{Nothing}
+use Rattle.std.proofs.Common.{◌≡◌, ℕ, ◌<◌, ◌≤◌, length, get_or}
+use Rattle.power.specs.Board.{older}
+use Rattle.power.specs.declared.state.Wanted.TheVariants.{Nothing}
 use Rattle.sim.specs.Boards.{wish_of}
 use Rattle.sim.proofs.wishes.let_tick_pass.Given as goal
 
-abbrev pub invariant-loop-u : goal.invariant-loop-u
-invariant-loop-u l =
-    (length l.wishes ≡ 32) × (l.waiting ≡ some' l.u (λ k. is_asked (wish_of (get_or l.initial.wishes k Nothing))))
-    × ((k : ℕ) → wish_of (get_or l.wishes k Nothing) ≡ cond (ltb k l.u) (older (wish_of (get_or l.initial.wishes k Nothing))) (wish_of (get_or l.initial.wishes k Nothing)))
+-- those so far are older, and the others as they were
+abbrev pub invariant-loop-wanted : goal.invariant-loop-wanted
+invariant-loop-wanted l =
+    (length l.wishes ≡ 32)
+    × ((k : ℕ) → k < l.wanted-index → wish_of (get_or l.wishes k Nothing) ≡ older (wish_of (get_or l.initial.wishes k Nothing)))
+    × ((k : ℕ) → l.wanted-index ≤ k → get_or l.wishes k Nothing ≡ get_or l.initial.wishes k Nothing)

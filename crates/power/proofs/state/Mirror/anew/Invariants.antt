@@ -1,9 +1,11 @@
-use Rattle.std.proofs.Common.{◌≡◌, ℕ, ◌<◌}
+use Rattle.std.proofs.Common.{◌≡◌, ℕ, ◌<◌, length, get_or}
 use Rattle.power.specs.Mirrors.{part_of, TriedIs, state_at}
+use Rattle.power.specs.declared.state.PartState.TheVariants.{Off}
 use Rattle.power.proofs.state.Mirror.anew.Given as goal
 
--- the same parts, those before x tried anew
-abbrev pub invariant-loop-x : goal.invariant-loop-x
-invariant-loop-x l =
-    ((z : ℕ) → part_of (state_at l.self z) ≡ part_of (state_at l.initial.self z)) ×
-    ((z : ℕ) → z < l.x → TriedIs (state_at l.self z) 0)
+-- the same parts, those so far tried anew
+abbrev pub invariant-loop-s : goal.invariant-loop-s
+invariant-loop-s l =
+    (length l.s-items ≡ 64) ×
+    ((z : ℕ) → part_of (get_or l.s-items z Off) ≡ part_of (state_at l.fn.self z)) ×
+    ((z : ℕ) → z < l.s-index → TriedIs (get_or l.s-items z Off) 0)

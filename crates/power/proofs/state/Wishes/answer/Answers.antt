@@ -10,15 +10,14 @@ use Rattle.power.proofs.state.Wishes.answer.Goals as goal
 pub returns-in-Done : goal.returns-in-Done
 returns-in-Done c b s =
     let u = c.args.u.n in
-    let x = c.args.x in
-    let l = c.args.l in
-    let asked = subst (λ (w : Wanted). Says w (b.wish u)) (sym c.requires.waits) (s u) in
-    let y = subst (λ (a : Answer). Says (wanted.Granted x l) (told_of (b.wish u) a)) (sym c.in-Done.is) (says_done (b.wish u) x l asked) in
-    says_put c.args.self.now c.put.new.self b.wish u (wanted.Granted x l) (told_of (b.wish u) c.args.a) c.args.u.below c.put.ensures s y
+    let r = c.args.r in
+    let asked = subst (λ (w : Wanted Unit). Says w (b.wish u)) (sym c.requires.waits) (s u) in
+    let y = subst (λ (a : Answer). Says (wanted.Granted r) (told_of (b.wish u) a)) (sym c.in-Done.is) (says_done (b.wish u) r asked) in
+    says_put c.args.self.now c.put.new.self b.wish u (wanted.Granted r) (told_of (b.wish u) c.args.a) c.args.u.below c.put.ensures s y
 
 pub returns-in-No : goal.returns-in-No
 returns-in-No c b s =
     let u = c.args.u.n in
-    let asked = subst (λ (w : Wanted). Says w (b.wish u)) (sym c.requires.waits) (s u) in
-    let y = subst (λ (a : Answer). Says wanted.Nothing (told_of (b.wish u) a)) (sym c.in-No.is) (says_no (b.wish u) _ c.args.x c.args.l asked) in
+    let asked = subst (λ (w : Wanted Unit). Says w (b.wish u)) (sym c.requires.waits) (s u) in
+    let y = subst (λ (a : Answer). Says wanted.Nothing (told_of (b.wish u) a)) (sym c.in-No.is) (says_no (b.wish u) _ c.args.r asked) in
     says_put c.args.self.now c.put-in-No.new.self b.wish u wanted.Nothing (told_of (b.wish u) c.args.a) c.args.u.below c.put-in-No.ensures s y

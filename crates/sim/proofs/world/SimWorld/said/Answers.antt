@@ -1,5 +1,5 @@
 -- What's turned away changes nothing; what's taken is within its bounds.
-use Rattle.std.proofs.Common.{sym, refl, ap, ◌∙◌, arith}
+use Rattle.std.proofs.Common.{sym, ap, ◌∙◌, arith}
 use Rattle.power.specs.Board.{called}
 use Rattle.power.specs.declared.Call.{Call}
 use Rattle.power.specs.declared.Call.TheVariants.{Want, Give}
@@ -7,19 +7,18 @@ use Rattle.sim.specs.Boards.{board_of}
 use Rattle.sim.proofs.Called.{away, want_taken, give_taken, want_bounds, give_bounds, why_is}
 use Rattle.sim.proofs.world.SimWorld.said.Goals as goal
 
-pub returns-then-no-ne0 : goal.returns-then-no-ne0
-returns-then-no-ne0 c =
-    record { does = away c.args.c (board_of c.args.self.now) (λ e. c.if-no-ne0.true (c.requires ∙ e)); paces = (refl, refl) }
+pub returns-then-no-ne0-clause-does : goal.returns-then-no-ne0-clause-does
+returns-then-no-ne0-clause-does c = away c.args.c (board_of c.args.self.now) (λ e. c.if-no-ne0.true (c.requires ∙ e))
 
-pub invariant_of-set_wish : goal.invariant_of-set_wish
-invariant_of-set_wish c =
+pub invariant_of-request : goal.invariant_of-request
+invariant_of-request c =
     let b = board_of c.args.self.now in
     let w = c.in-Want in
     let r = want_bounds w.u w.x w.l b (why_is c.args.c (Want w.u w.x w.l) b c.args.no w.is c.requires c.if-no-ne0.false) in
     record { below = omega (arith, r.1) }
 
-pub invariant_of-set_wish-in-Want : goal.invariant_of-set_wish-in-Want
-invariant_of-set_wish-in-Want c =
+pub invariant_of-request-in-Want : goal.invariant_of-request-in-Want
+invariant_of-request-in-Want c =
     let b = board_of c.args.self.now in
     let w = c.in-Want in
     let r = want_bounds w.u w.x w.l b (why_is c.args.c (Want w.u w.x w.l) b c.args.no w.is c.requires c.if-no-ne0.false) in

@@ -1,0 +1,49 @@
+// An input, and whoever is told what comes of it.
+ghost use Rattle.std.specs.Prelude.{◌≡◌};
+ghost use Rattle.play.specs.Inputs.{number_after};
+
+use super::reader::{Reader, Unclear};
+use script::event::{Event, Say};
+use script::line::Line;
+use script::lines::Lines;
+
+#[derive(Drop)]
+pub struct Session<'a, 'b, L, S> {
+    lines: &'a mut L,
+    reader: Reader,
+    out: &'b mut S,
+}
+
+impl<'a, 'b, L: Lines, S: Say> Session<'a, 'b, L, S> {
+    // No line was read yet.
+    pub fn new(lines: &'a mut L, out: &'b mut S) -> Session<'a, 'b, L, S>
+        ensures { result.reader.number ≡ 0 }
+    {
+        Session {
+            lines,
+            reader: Reader::new(),
+            out,
+        }
+    }
+
+    // The next line, if there is one.
+    pub(crate) fn next(&mut self) -> Option<Result<Line, Unclear>>
+        ensures { self.new.reader.number ≡ number_after result self.old.reader.number }
+    {
+        self.reader.next(self.lines)
+    }
+
+    // The last line is no line here.
+    pub(crate) fn unclear(&mut self) {
+        let number = self.reader.number();
+        self.out.say(Event::NoLine(number));
+    }
+
+    pub(crate) fn say(&mut self, event: Event) {
+        self.out.say(event);
+    }
+
+    pub(crate) fn say_levels(&mut self, levels: &[u32]) {
+        self.out.say_levels(levels);
+    }
+}
