@@ -9,8 +9,8 @@ use play::play::play;
 use script::lines::SliceLines;
 use script::sheet::Sheet;
 
-// There was no room for all that is to be written.
-pub const NO_ROOM: u64 = 18446744073709551615;
+// There was no room for all that is to be written. A number, since C is told one.
+pub const NO_ROOM: u64 = u64::MAX;
 
 // Plays plans and scripts, and writes what `buoy` would print: how many bytes, or `NO_ROOM`.
 #[unsafe(no_mangle)]

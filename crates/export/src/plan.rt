@@ -1,5 +1,5 @@
 // A plan, and the least for what is wanted of it.
-ghost use Rattle.std.specs.Prelude.{◌≡◌, ℕ, ◌<◌, length, slice_index};
+ghost use Rattle.std.specs.Prelude.{◌≡◌, ℕ, ◌<◌, ◌≤◌, length, slice_index};
 ghost use Rattle.power.specs.Tables.{at};
 ghost use Rattle.export.specs.Refused.{code_of};
 ghost use Rattle.export.specs.declared.plan.Refused.TheVariants as refused;
@@ -37,30 +37,30 @@ impl From<CantBe> for Refused {
     }
 }
 
-// What is wanted of part x, 0 past the end.
-fn want_at(wants: &[u32], x: usize) -> u32
-    ensures { result ≡ slice_index wants.now x }
+// Copies levels from the front of a slice to the front of another, as many as both have.
+fn copy_front(to: &mut [u32], from: &[u32])
+    ensures length { length to.new ≡ length to.old }
+    ensures front { (x : ℕ) → x < length to.old → x < length from.now → slice_index to.new x ≡ slice_index from.now x }
+    ensures rest { (x : ℕ) → length from.now ≤ x → slice_index to.new x ≡ slice_index to.old x }
 {
-    wants.get(x).copied().unwrap_or(0)
+    let n = to.len().min(from.len());
+    to[..n].copy_from_slice(&from[..n]);
 }
 
 // A level for each part: those of a slice, and 0 past its end.
 fn levels_of(wants: &[u32]) -> Levels
     ensures { (x : ℕ) → x < 64 → at result x ≡ slice_index wants.now x }
 {
-    let mut of = [0; 64];
-    for (x, level) in of.iter_mut().enumerate() {
-        *level = want_at(wants, x);
-    }
-    Levels { of }
+    let mut levels = Levels::new();
+    copy_front(&mut levels.of, wants);
+    levels
 }
 
 // Writes the levels of the first parts, as many as there is room for.
 fn write_levels(levels: &Levels, out: &mut [u32])
     ensures { (x : ℕ) → x < 64 → x < length out.new → slice_index out.new x ≡ at levels.now x }
 {
-    let n = out.len().min(64);
-    out[..n].copy_from_slice(&levels.of[..n]);
+    copy_front(out, &levels.of);
 }
 
 // The board of a plan, if it is one.

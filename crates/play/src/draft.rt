@@ -6,7 +6,7 @@ use script::line::Line;
 use sim::plan::{Plan, PlanPart};
 use sim::state::Sim;
 
-// The parts so far; None: no plan can hold what was written.
+// The parts so far; `None` where no plan can hold what was written.
 #[derive(Drop)]
 pub struct Draft {
     plan: Option<Plan>,
@@ -55,7 +55,7 @@ impl Draft {
         Sim::new(self.plan?).ok()
     }
 
-    // A line of the plan; None: it's no line of one.
+    // Heeds a line of the plan; `None` where it is no line of a plan.
     pub fn heed(&mut self, line: Line) -> Option<Step>
         ensures { Heeded line result self.old.plan self.new.plan }
     {

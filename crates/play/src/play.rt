@@ -4,6 +4,7 @@ ghost use Rattle.power.specs.Board.{AtStart};
 ghost use Rattle.sim.specs.Boards.{board_of};
 
 use super::draft::{Draft, Step};
+use super::reader::MOST_LINES;
 use super::session::Session;
 use super::stage::Stage;
 use power::days;
@@ -16,12 +17,8 @@ impl<L: Lines, S: Say> Session<'_, '_, L, S> {
     // The plan up to its `run`, if there is one.
     fn read_plan(&mut self) -> Option<Draft> {
         let mut draft = Draft::new();
-        for _ in 0..u64::MAX {
-            let step = match self.next()? {
-                Ok(line) => draft.heed(line),
-                Err(_) => None,
-            };
-            match step {
+        for _ in 0..MOST_LINES {
+            match self.next()?.ok().and_then(|line| draft.heed(line)) {
                 Some(Step::More) => {}
                 Some(Step::Whole) => return Some(draft),
                 None => self.unclear(),
@@ -32,7 +29,7 @@ impl<L: Lines, S: Say> Session<'_, '_, L, S> {
 
     // Passes over all lines up to the next `new`; whether there is one.
     fn skip_to_new(&mut self) -> bool {
-        for _ in 0..u64::MAX {
+        for _ in 0..MOST_LINES {
             match self.next() {
                 Some(Ok(Line::New)) => return true,
                 Some(_) => {}
@@ -69,7 +66,7 @@ impl<L: Lines, S: Say> Session<'_, '_, L, S> {
 // Plays an input to its end.
 pub fn play<L: Lines, S: Say>(lines: &mut L, out: &mut S) {
     let mut session = Session::new(lines, out);
-    for _ in 0..u64::MAX {
+    for _ in 0..MOST_LINES {
         if !session.play_plan() {
             return;
         }

@@ -11,6 +11,9 @@ use script::read::read_line;
 use std::error::Error;
 use std::fmt;
 
+// No input has more lines: one may be of any length, but a loop has to end.
+pub(crate) const MOST_LINES: u64 = u64::MAX;
+
 // Why what comes next is no line.
 #[derive(Clone, Copy, Debug, PartialEq, Eq)]
 pub enum Unclear {
@@ -33,7 +36,7 @@ impl fmt::Display for Unclear {
     fn fmt<W: fmt::Write>(&self, f: &mut fmt::Formatter<W>) -> fmt::Result {
         match self {
             Unclear::TooLong => f.write_str("too long"),
-            Unclear::NoLine(e) => write!(f, "{e}"),
+            Unclear::NoLine(e) => e.fmt(f),
         }
     }
 }

@@ -1,8 +1,9 @@
 // A board in memory whose users' calls are lines, and which says what is done to it and told.
-ghost use Rattle.std.specs.Prelude.{◌≡◌};
+ghost use Rattle.std.specs.Prelude.{◌≡◌, false};
 ghost use Rattle.sim.specs.Boards.{board_of};
 ghost use Rattle.play.specs.Stages.{calls_for, ticks_after};
 
+use super::reader::MOST_LINES;
 use super::session::Session;
 use power::{Answer, Call, Next, Parts, World};
 use script::event::{Event, Say};
@@ -22,7 +23,9 @@ pub struct Stage<'s, 'a, 'b, L, S> {
 impl<'s, 'a, 'b, L: Lines, S: Say> Stage<'s, 'a, 'b, L, S> {
     pub fn new(sim: Sim, session: &'s mut Session<'a, 'b, L, S>) -> Stage<'s, 'a, 'b, L, S>
         ensures sim { result.sim ≡ sim }
+        ensures session { (result.session.ghost_name ≡ session.entry.ghost_name) × (result.session.now ≡ session.old) }
         ensures ticks { result.ticks ≡ 0 }
+        ensures renewed { result.renewed ≡ false }
     {
         Stage {
             sim,
@@ -128,7 +131,7 @@ impl<L: Lines, S: Say> World for Stage<'_, '_, '_, L, S> {
             self.ticks -= 1;
             return Next::Tick;
         }
-        for _ in 0..u64::MAX {
+        for _ in 0..MOST_LINES {
             let Some(said) = self.session.next() else {
                 return Next::Over;
             };

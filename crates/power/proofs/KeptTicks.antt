@@ -21,7 +21,7 @@ use Rattle.power.specs.Turns.{AimsAt, AimsFor, DoneWith}
 use Rattle.power.specs.Kept.{Mirrors, Kept, Pursued, Worked}
 use Rattle.power.proofs.Tests.{and_i}
 use Rattle.power.proofs.Puts.{put_each}
-use Rattle.power.proofs.Said.{says_ticked, asked_waits, nobody_asked, waits_asked}
+use Rattle.power.proofs.Said.{says_ticked, asked_waits, nobody_asked}
 use Rattle.power.proofs.SoundUsers.{sound_told, sound_ticked}
 use Rattle.power.proofs.Ages.{is_asked_lem, moved_self, aged_young, aged_moved, aged_told, aged_spent, aged_still}
 use Rattle.power.proofs.Quiet.{quiet_still, lean_ticked, lean_soon, lean_late, in_time_soon, in_time_lean}
@@ -45,11 +45,7 @@ kept_ticked k b m s l a t =
 young_only : (t : ℕ) (b b' : Board) → OnlyParts b b' → Aged t b → (u : ℕ) → u < 32 → T (young (b'.wish u))
 young_only t b b' o a u hu = subst (λ (f : ℕ → Wish). T (young (f u))) (sym o.wish) (aged_young t b a u hu)
 
--- NOBODY WAITS, while it is quiet
-pub quiet_nobody : (k : Keeper) (b : Board) → Kept k b → 0 < k.idle → NobodyWaits k.wishes 0 32
-quiet_nobody k b m h u z hu w =
-    T_not (is_asked (b.wish u)) (m.still (omega (arith, m.mirrors.idle)) u hu) (waits_asked k.wishes b u m.mirrors.says w)
-
+-- NOBODY WAITS
 module _ (k k' : Keeper) (b : Board) (m : Kept k b) (nobody : NobodyWaits k.wishes 0 32) (et : k'.turn ≡ k.turn) where
   none : (u : ℕ) → u < 32 → T (not (is_asked (b.wish u)))
   none = nobody_asked k.wishes b m.mirrors.says nobody

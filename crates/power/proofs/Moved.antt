@@ -15,6 +15,9 @@ only_then a b c p q = record { parts = q.parts ∙ p.parts; needs = q.needs ∙ 
 only_step : (b : Board) (p : ℕ → Part) (t : ℕ → ℕ) → OnlyParts b (with_parts p t b)
 only_step b p t = record { parts = refl; needs = refl; draws = refl; gives = refl; wish = refl; quiet = refl }
 
+pub still_there : {b b' : Board} (x : ℕ) → OnlyParts b b' → x < b.parts → x < b'.parts
+still_there x o h = omega (arith, o.parts)
+
 -- DOWN
 pub came_down_then : (t : ℕ → ℕ) (n : ℕ) (a : Board) (m : ℕ) (b : Board) (k : ℕ) (c : Board) → CameDown t n a m b → CameDown t m b k c → CameDown t n a k c
 came_down_then t n a m b k c p q =

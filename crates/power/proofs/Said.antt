@@ -2,13 +2,13 @@
 use Rattle.std.proofs.Common.{◌≡◌, ℕ, ◌+◌, ◌<◌, true, false, not, T, ◌≢◌, length, set, replicate, sym, refl, ap, subst, arith}
 use lib.Dec.{not_T}
 use Rattle.power.specs.Board.{Board, Wish, is_asked, is_none, put, told_of, older, ticked, AtStart}
-use Rattle.power.specs.Mirrors.{Says, SaysAll, Waits, wanted_by}
+use Rattle.power.specs.Mirrors.{Says, SaysAll, Waits, wanted_by, once_told}
 use Rattle.power.specs.Rota.{NobodyWaits}
+use Rattle.power.specs.declared.Answer.{Answer}
 use Rattle.power.specs.declared.Answer.TheVariants.{Done, No}
 use Rattle.power.specs.declared.state.Wanted.{Wanted}
 use Rattle.power.specs.declared.state.Wanted.TheVariants as wanted
 use Rattle.power.specs.declared.state.Wishes.{Wishes}
-use Rattle.power.specs.declared.state.Request.{Request}
 use Rattle.power.proofs.Puts.{put_here, put_other, set_each}
 use Rattle.power.proofs.Shown.{get_d_same}
 
@@ -19,13 +19,12 @@ says_put ws ws' f u w y lt e all s v =
     let long : u < length ws.wanted = omega (arith, ws.long) in
     rw e (set_each Says wanted.Nothing ws.wanted f (put u y f) u w long all (rw (put_here u y f) s) (put_other u y f) v)
 
-pub says_done : (v : Wish) (r : Request) → Says (wanted.Asked r tt) v → Says (wanted.Granted r) (told_of v Done)
+pub says_told : (w : Wanted Unit) (v : Wish) (a : Answer) → Says w v → Says (once_told w a) (told_of v a)
 unfolding told_of
-says_done v r s = ap (λ w. told_of w Done) s.1
-
-pub says_no : (v : Wish) (k : ℕ) (r : Request) → Says (wanted.Asked r tt) v → Says wanted.Nothing (told_of v (No k))
-unfolding told_of
-says_no v k r s = ap (λ w. told_of w (No k)) s.1
+says_told wanted.Nothing v a s = ap (λ z. told_of z a) s
+says_told (wanted.Asked r t) v Done s = ap (λ z. told_of z Done) s.1
+says_told (wanted.Asked r t) v (No k) s = ap (λ z. told_of z (No k)) s.1
+says_told (wanted.Granted r) v a s = ap (λ z. told_of z a) s
 
 -- A TICK, AND THE START
 says_older : (w : Wanted Unit) (v : Wish) → Says w v → Says w (older v)

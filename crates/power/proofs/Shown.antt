@@ -1,10 +1,9 @@
 -- What the mirror shows of the parts: read, after a telling, and at the start. Assumes nothing.
-use Rattle.std.proofs.Common.{◌≡◌, ℕ, zero, suc, true, false, ◌≢◌, get_or, replicate, sym, refl, ap, ◌∙◌, subst}
-use Rattle.std.proofs.lemmas.Bool.{cond-true, cond-false, eq-eqb, ne_eqb}
+use Rattle.std.proofs.Common.{◌≡◌, ℕ, zero, suc, true, false, get_or, replicate, sym, refl, ap, ◌∙◌, subst}
+use Rattle.std.proofs.lemmas.Bool.{cond-true, cond-false}
 use Rattle.power.specs.Board.{Board, level_of, told, is_six, AtStart}
 use Rattle.power.specs.Mirrors.{part_of, TriedIs, state_at, Shows, Anew}
 use Rattle.power.specs.declared.Answer.{Answer}
-use Rattle.power.specs.declared.Answer.TheVariants.{Done, No}
 use Rattle.power.specs.declared.state.PartState.{PartState}
 use Rattle.power.specs.declared.state.PartState.TheVariants as state
 use Rattle.power.specs.declared.state.Tried.{Tried}
@@ -21,18 +20,6 @@ pub level_shown : (m : Mirror) (b : Board) (x n : ℕ) → Shows m b → n ≡ l
 level_shown m b x n h e = e ∙ sym (ap level_of (h.part x))
 
 -- A TELLING
-pub done_not_six : (a : Answer) → a ≡ Done → is_six a ≡ false
-unfolding is_six
-done_not_six a e = ap is_six e
-
-pub six_is : (a : Answer) (k : ℕ) → a ≡ No k → k ≡ 6 → is_six a ≡ true
-unfolding is_six
-six_is a k e h = ap is_six e ∙ eq-eqb k 6 h
-
-pub six_not : (a : Answer) (k : ℕ) → a ≡ No k → k ≢ 6 → is_six a ≡ false
-unfolding is_six
-six_not a k e h = ap is_six e ∙ ne_eqb k 6 h
-
 pub shows_told : (m : Mirror) (b : Board) (u : ℕ) (a : Answer) → is_six a ≡ false → Shows m b → Shows m (told u a b)
 shows_told m b u a e h = record { part = h.part; tried = λ x. rw (cond-false (is_six a) 0 (b.tried x) e) (h.tried x) }
 
@@ -42,11 +29,15 @@ shows_six m m' b u a e n h =
     record { part = λ x. h.part x ∙ sym (n.part x); tried = λ x. rw (cond-true (is_six a) 0 (b.tried x) e) (n.tried x) }
 
 -- THE START
+-- a list all of whose elements f takes to b, as it does the default
+pub all_same : {A B : Type 0} (f : A → B) (n : ℕ) (a d : A) (b : B) → f a ≡ b → f d ≡ b → (x : ℕ) → f (get_or (replicate n a) x d) ≡ b
+all_same f zero a d b p q x = q
+all_same f (suc n) a d b p q zero = p
+all_same f (suc n) a d b p q (suc x) = all_same f n a d b p q x
+
 -- a list of defaults is the default everywhere
 pub get_d_same : {A : Type 0} (n : ℕ) (d : A) (j : ℕ) → get_or (replicate n d) j d ≡ d
-get_d_same zero d j = refl
-get_d_same (suc n) d zero = refl
-get_d_same (suc n) d (suc j) = get_d_same n d j
+get_d_same n d j = all_same (λ x. x) n d d d refl refl j
 
 pub shows_start : (m : Mirror) (b : Board) → m.states ≡ replicate 64 state.Off → AtStart b → Shows m b
 shows_start m b e s =

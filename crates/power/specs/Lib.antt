@@ -7,6 +7,7 @@ pub mod Found
 pub mod Grants
 pub mod Kept
 pub mod Least
+pub mod Loans
 pub mod Mirrors
 pub mod Moves
 pub mod NotDone

@@ -1,8 +1,10 @@
 -- What the keeper's own tables say of a board.
 -- Assumes nothing.
-use Rattle.std.specs.Prelude.{◌≡◌, ℕ, ◌≤◌, slice_index_or}
+use Rattle.std.specs.Prelude.{◌≡◌, ℕ, ◌≤◌, Bool, true, false, T, slice_index_or}
 use Rattle.std.specs.Coded.{Unit-prop, Coded-set, coded_ℕ}
 use Rattle.power.specs.Board.{Board, Part, Off, Rising, On, Wish, None', Asked, Granted}
+use Rattle.power.specs.declared.Answer.{Answer}
+use Rattle.power.specs.declared.Answer.TheVariants.{Done, No}
 use Rattle.power.specs.declared.state.PartState.{PartState}
 use Rattle.power.specs.declared.state.PartState.TheVariants as state
 use Rattle.power.specs.declared.state.Wanted.{Wanted}
@@ -58,7 +60,18 @@ Says (wanted.Granted r) v = v ≡ Granted r.part.n r.level.n
 abbrev pub SaysAll : Wishes → Board → Type 0
 SaysAll ws b = (u : ℕ) → Says (wanted_by ws u) (b.wish u)
 
+-- it was asked, and nobody was told yet
+abbrev pub asks : {A : Type 0} → Wanted A → Bool
+asks wanted.Nothing = false
+asks (wanted.Asked r t) = true
+asks (wanted.Granted r) = false
+
 abbrev pub Waits : Wanted Unit → Type 0
-Waits wanted.Nothing = ⊥
-Waits (wanted.Asked r t) = Unit {0}
-Waits (wanted.Granted r) = ⊥
+Waits w = T (asks w)
+
+-- what is left of it once its user is told a
+abbrev pub once_told : {A : Type 0} → Wanted A → Answer → Wanted A
+once_told wanted.Nothing a = wanted.Nothing
+once_told (wanted.Asked r t) Done = wanted.Granted r
+once_told (wanted.Asked r t) (No k) = wanted.Nothing
+once_told (wanted.Granted r) a = wanted.Granted r

@@ -6,39 +6,40 @@ ghost use Rattle.power.specs.Found.{Finds, FindsAims};
 
 use crate::Parts;
 use crate::datasheet::DataSheet;
-use crate::types::{Aims, CantBe, Level, Levels, PartId};
+use crate::state::Request;
+use crate::types::{Aims, CantBe, Levels};
 
 impl<P: Parts> DataSheet<'_, P> {
-    // The least for what is wanted, and x at l too.
-    fn least_with(&self, mut want: Levels, x: PartId, l: Level) -> Result<Levels, CantBe>
-        ensures { Finds (P.board self.now.board.now) (and_also (at want) x.n l.n) result }
+    // The least for what is wanted, and for a request too.
+    fn least_with(&self, mut want: Levels, request: Request) -> Result<Levels, CantBe>
+        ensures { Finds (P.board self.now.board.now) (and_also (at want) request.part.n request.level.n) result }
     {
-        want.also(x, l.n);
+        want.also(request.part, request.level.n);
         self.least(&want)
     }
 
-    // The least for x at l alone.
-    fn least_alone(&self, x: PartId, l: Level) -> Result<Levels, CantBe>
-        ensures { Finds (P.board self.now.board.now) (and_also (λ (z : ℕ). 0) x.n l.n) result }
+    // The least for a request alone.
+    fn least_alone(&self, request: Request) -> Result<Levels, CantBe>
+        ensures { Finds (P.board self.now.board.now) (and_also (λ (z : ℕ). 0) request.part.n request.level.n) result }
     {
-        self.least_with(Levels::new(), x, l)
+        self.least_with(Levels::new(), request)
     }
 
-    // What to aim at for x at l, if it can be with what is granted.
-    fn aims(&self, granted: Levels, x: PartId, l: Level) -> Result<Aims, CantBe>
-        ensures { FindsAims (P.board self.now.board.now) (at granted) x.n l.n result }
+    // What to aim at for a request, if it can be with what is granted.
+    fn aims(&self, granted: Levels, request: Request) -> Result<Aims, CantBe>
+        ensures { FindsAims (P.board self.now.board.now) (at granted) request.part.n request.level.n result }
     {
-        let goal = self.least_alone(x, l)?;
-        let ceiling = self.least_with(granted, x, l)?;
+        let goal = self.least_alone(request)?;
+        let ceiling = self.least_with(granted, request)?;
         Ok(Aims { ceiling, goal })
     }
 }
 
 // The same, of a board.
-pub fn aims<P: Parts>(b: &P, granted: Levels, x: PartId, l: Level) -> Result<Aims, CantBe>
+pub fn aims<P: Parts>(b: &P, granted: Levels, request: Request) -> Result<Aims, CantBe>
     requires few { (P.board b.now).parts ≤ 64 }
     requires plan { T (good_plan (P.board b.now)) }
-    ensures { FindsAims (P.board b.now) (at granted) x.n l.n result }
+    ensures { FindsAims (P.board b.now) (at granted) request.part.n request.level.n result }
 {
-    DataSheet { board: b }.aims(granted, x, l)
+    DataSheet { board: b }.aims(granted, request)
 }

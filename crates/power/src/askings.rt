@@ -1,7 +1,8 @@
 // What is asked of the board: one method for each thing, that changes the board and what is known of it together. One that takes what to ask as a
-// closure would be no plainer: the four require and do another thing each, and share but the count.
+// closure would be no plainer: the four require and do another thing each, and all they share is the count.
 // `may` is what the data sheet asks; `can` is the budget of this tick.
 ghost use Rattle.std.specs.Prelude.{◌≡◌, ◌+◌, ◌<◌};
+ghost use Rattle.power.specs.Loans.{SameLoans};
 ghost use Rattle.power.specs.Board.{MayRaise, MayLower, MayLevel, Tries, raised, lowered, levelled};
 ghost use Rattle.power.specs.Mirrors.{state_at};
 ghost use Rattle.power.specs.declared.state.PartState.TheVariants.{Rising};
@@ -18,7 +19,7 @@ impl<P: Parts> Drive<'_, P> {
         requires can { 0 < self.old.driver.now.left }
         ensures does { P.board self.new.board.now ≡ lowered x.n (P.board self.old.board.now) }
         ensures spends { self.new.driver.now.left + 1 ≡ self.old.driver.now.left }
-        ensures same { (self.new.board.ghost_name ≡ self.old.board.ghost_name) × (self.new.driver.ghost_name ≡ self.old.driver.ghost_name) }
+        ensures same { SameLoans self.old self.new }
     {
         let driver = &mut *self.driver;
         let board = &mut *self.board;
@@ -32,7 +33,7 @@ impl<P: Parts> Drive<'_, P> {
         requires can { 0 < self.old.driver.now.left }
         ensures does { P.board self.new.board.now ≡ raised x.n (P.board self.old.board.now) }
         ensures spends { self.new.driver.now.left + 1 ≡ self.old.driver.now.left }
-        ensures same { (self.new.board.ghost_name ≡ self.old.board.ghost_name) × (self.new.driver.ghost_name ≡ self.old.driver.ghost_name) }
+        ensures same { SameLoans self.old self.new }
     {
         let driver = &mut *self.driver;
         let board = &mut *self.board;
@@ -46,7 +47,7 @@ impl<P: Parts> Drive<'_, P> {
         requires can { 0 < self.old.driver.now.left }
         ensures does { P.board self.new.board.now ≡ levelled x.n v.n (P.board self.old.board.now) }
         ensures spends { self.new.driver.now.left + 1 ≡ self.old.driver.now.left }
-        ensures same { (self.new.board.ghost_name ≡ self.old.board.ghost_name) × (self.new.driver.ghost_name ≡ self.old.driver.ghost_name) }
+        ensures same { SameLoans self.old self.new }
     {
         let driver = &mut *self.driver;
         let board = &mut *self.board;
@@ -63,7 +64,7 @@ impl<P: Parts> Drive<'_, P> {
         requires can { 0 < self.old.driver.now.left }
         ensures does { Tries (P.board self.old.board.now) x.n result (P.board self.new.board.now) }
         ensures spends { self.new.driver.now.left + 1 ≡ self.old.driver.now.left }
-        ensures same { (self.new.board.ghost_name ≡ self.old.board.ghost_name) × (self.new.driver.ghost_name ≡ self.old.driver.ghost_name) }
+        ensures same { SameLoans self.old self.new }
     {
         let driver = &mut *self.driver;
         let board = &mut *self.board;

@@ -1,5 +1,6 @@
 // A tick's way for one want: down to the ceiling, then up to the goal.
 ghost use Rattle.std.specs.Prelude.{◌≡◌};
+ghost use Rattle.power.specs.Loans.{SameLoans};
 ghost use Rattle.power.specs.Tables.{at};
 ghost use Rattle.power.specs.Moves.{Targets, CameNearer, AllEnd};
 
@@ -13,7 +14,7 @@ impl<P: Parts> Drive<'_, P> {
         requires aims { Targets (P.board self.old.board.now) (at aims.now.ceiling) (at aims.now.goal) }
         ensures came { CameNearer (at aims.now.goal) self.old.driver.now.left (P.board self.old.board.now) self.new.driver.now.left (P.board self.new.board.now) }
         ensures ends { AllEnd result (P.board self.new.board.now) (at aims.now.goal) self.new.driver.now.left }
-        ensures same { (self.new.board.ghost_name ≡ self.old.board.ghost_name) × (self.new.driver.ghost_name ≡ self.old.driver.ghost_name) }
+        ensures same { SameLoans self.old self.new }
     {
         self.come_down(&aims.ceiling)?;
         self.go_up(aims)

@@ -1,5 +1,6 @@
 // The way down to a ceiling: the parts from the last to the first, so that no part loses what another still needs.
 ghost use Rattle.std.specs.Prelude.{◌≡◌, ◌+◌, ◌<◌, ◌≤◌};
+ghost use Rattle.power.specs.Loans.{SameLoans};
 ghost use Rattle.power.specs.Board.{level_of};
 ghost use Rattle.power.specs.Aim.{Fits, Covers};
 ghost use Rattle.power.specs.Tables.{at};
@@ -19,9 +20,10 @@ impl<P: Parts> Drive<'_, P> {
         ensures came { CameDown (at ceiling.now) self.old.driver.now.left (P.board self.old.board.now) self.new.driver.now.left (P.board self.new.board.now) }
         ensures ends { OrSpent result self.new.driver.now.left (level_of ((P.board self.new.board.now).part x.n) ≤ at ceiling.now x.n) }
         ensures down { Down (P.board self.new.board.now) (at ceiling.now) (x.n + 1) }
-        ensures same { (self.new.board.ghost_name ≡ self.old.board.ghost_name) × (self.new.driver.ghost_name ≡ self.old.driver.ghost_name) }
+        ensures same { SameLoans self.old self.new }
     {
         let t = ceiling.get(x);
+        // as long as it may ask: each turn asks once
         while self.driver.left > 0 {
             let v = self.driver.mirror.level(x);
             if v <= t {
@@ -42,9 +44,10 @@ impl<P: Parts> Drive<'_, P> {
         requires covers { Covers (P.board self.old.board.now) (at ceiling.now) }
         ensures came { CameDown (at ceiling.now) self.old.driver.now.left (P.board self.old.board.now) self.new.driver.now.left (P.board self.new.board.now) }
         ensures ends { OrSpent result self.new.driver.now.left (Below (P.board self.new.board.now) (at ceiling.now)) }
-        ensures same { (self.new.board.ghost_name ≡ self.old.board.ghost_name) × (self.new.driver.ghost_name ≡ self.old.driver.ghost_name) }
+        ensures same { SameLoans self.old self.new }
     {
         let n = self.board.parts();
+        // by number, as a board is asked
         for x in (0..n).rev() {
             self.lower_to(PartId { n: x }, ceiling)?;
         }

@@ -4,11 +4,11 @@ ghost use Rattle.power.specs.Board.{Board, AtStart, told, ticked};
 ghost use Rattle.power.specs.Mirrors.{Knows};
 
 use crate::Answer;
-use crate::not_done::NotDone;
+use crate::not_done::is_not_good;
 use crate::state::{Driver, Mirror};
 
 // How often the board may be asked in a tick.
-pub(crate) const ASKINGS: u32 = 1024;
+pub const ASKINGS: u32 = 1024;
 
 impl Driver {
     pub(crate) fn new() -> Driver
@@ -24,10 +24,8 @@ impl Driver {
     pub(crate) fn answered(&mut self, a: Answer)
         ensures { (b : Board) (u : ℕ) → Knows self.old b → Knows self.new (told u a b) }
     {
-        if let Answer::No(k) = a {
-            if k == u32::from(NotDone::NotGood) {
-                self.mirror.anew();
-            }
+        if is_not_good(a) {
+            self.mirror.anew();
         }
     }
 

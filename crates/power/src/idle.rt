@@ -1,5 +1,6 @@
 // A tick in which nobody waits: after 32 of them the board comes down to the least for what was granted.
 ghost use Rattle.std.specs.Prelude.{◌≡◌, ◌≤◌, T, None};
+ghost use Rattle.power.specs.Loans.{SameLoans};
 ghost use Rattle.power.specs.Board.{lean};
 ghost use Rattle.power.specs.Mirrors.{SaysAll};
 ghost use Rattle.power.specs.Moves.{OnlyParts};
@@ -21,11 +22,11 @@ impl<P: Parts> Drive<'_, P> {
         requires all { self.old.driver.now.left ≡ 1024 }
         ensures only { OnlyParts (P.board self.old.board.now) (P.board self.new.board.now) }
         ensures low { T (lean (P.board self.new.board.now)) }
-        ensures same { (self.new.board.ghost_name ≡ self.old.board.ghost_name) × (self.new.driver.ghost_name ≡ self.old.driver.ghost_name) }
+        ensures same { SameLoans self.old self.new }
     {
         let granted = wishes.granted();
         if let Ok(to) = least(&*self.board, &granted) {
-            let _ended = self.come_down(&to);
+            let _ = self.come_down(&to);
         }
     }
 }

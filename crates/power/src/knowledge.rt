@@ -1,9 +1,11 @@
 // What the keeper is.
-ghost use Rattle.std.specs.Prelude.{◌≤◌};
+ghost use Rattle.std.specs.Prelude.{◌<◌, ◌≤◌};
+ghost use Rattle.std.proofs.Props.{props};
+ghost use Rattle.power.specs.Rota.{NobodyWaits};
 
 use crate::state::{Driver, Turn, Wishes};
 
-// What the keeper knows, at most 65,536 bytes.
+// What the keeper knows, at most 65,536 bytes. While it's quiet nobody waits. That it knows a board (`Kept`) no type can say: it doesn't hold the board.
 #[derive(Drop)]
 pub struct Keeper {
     pub parts: u32,
@@ -13,4 +15,5 @@ pub struct Keeper {
     // for how many ticks it has been quiet
     pub(crate) idle: u32,
     ghost few: { parts ≤ 64 },
+    ghost calm: { 0 < idle → NobodyWaits wishes 0 32 } by { Prim.hlevel props },
 }

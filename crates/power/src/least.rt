@@ -1,4 +1,5 @@
 // The least levels that serve what is wanted: from the last part to the first, each pushes what it needs onto its needs.
+// Loops go by number here, and where parts are moved: a board is asked of a part, and a part of a need, by number.
 ghost use Rattle.std.specs.Prelude.{◌≡◌, ◌<◌, ◌≤◌, not, ◌||◌, T, length, MatchResult, ◌==◌, nat_le};
 ghost use Rattle.power.specs.Board.{good_plan, can_be, drawn_at, draw_at, on_of, most_of};
 ghost use Rattle.power.specs.Promise.{allowed'};
@@ -8,6 +9,9 @@ ghost use Rattle.power.specs.Found.{Pushed, Swept, needs_fit, parts_fit, Finds};
 use crate::Parts;
 use crate::datasheet::{DataSheet, LowLevels, PartSheet};
 use crate::types::{CantBe, Level, Levels, PartId};
+
+// no level is above it
+const TOP: u32 = Level::TOP;
 
 impl<P: Parts> PartSheet<'_, P> {
     // The part that its kth need is on.
@@ -82,7 +86,7 @@ impl<'b, P: Parts> DataSheet<'b, P> {
             let x = self.part(n);
             ls.also(x.part, want.get(x.part));
             let l = ls.get(x.part);
-            if l > Level::TOP {
+            if l > TOP {
                 return Err(CantBe);
             }
             x.push(l, &mut ls);

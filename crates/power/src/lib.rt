@@ -35,9 +35,11 @@ mod up;
 mod users;
 mod wishes;
 
-use crate::driver::ASKINGS;
+pub use crate::driver::ASKINGS;
 pub use crate::knowledge::Keeper;
 use crate::state::{Driver, Turn, Wishes};
+
+// Bare numbers in calls and answers: this text is fixed.
 
 // Users 0 to 31, parts 0 to 63, levels 1 to 15.
 #[derive(Clone, Copy)]
@@ -157,18 +159,11 @@ impl Keeper {
         ensures { Worked result self.new (P.board b.new) }
     {
         self.driver.left = ASKINGS;
-        // while it's quiet nobody waits
-        if self.idle > 0 {
-            self.be_idle(b);
-            return None;
+        if let Some(u) = self.head() {
+            return self.attend(b, u);
         }
-        match self.wishes.head(self.turn.user) {
-            None => {
-                self.be_idle(b);
-                None
-            }
-            Some(u) => self.attend(b, u),
-        }
+        self.be_idle(b);
+        None
     }
 }
 
@@ -177,6 +172,8 @@ pub fn keeper_is_small() -> bool
 {
     std::mem::size_of::<Keeper>() <= 65536
 }
+
+// The text of `days` is fixed, its loop too.
 
 // THE MAIN PROMISE. Whatever is wanted and given back, and whatever doesn't rise.
 pub fn days<W: Parts + World>(w: &mut W, many: u64)

@@ -1,8 +1,10 @@
 // Why a user is told no, and the numbers of that.
 ghost use Rattle.std.specs.Prelude.{◌≡◌, Some};
+ghost use Rattle.power.specs.Board.{is_six};
 ghost use Rattle.power.specs.NotDone.{told_number, told_text};
 ghost use Rattle.power.specs.declared.not_done.NotDone.TheVariants as not_done;
 
+use crate::Answer;
 use crate::types::CantBe;
 use std::error::Error;
 use std::fmt;
@@ -46,3 +48,13 @@ impl fmt::Display for NotDone {
 }
 
 impl Error for NotDone {}
+
+// Is it the no for a part that doesn't get good?
+pub fn is_not_good(a: Answer) -> bool
+    ensures { result ≡ is_six a }
+{
+    match a {
+        Answer::Done => false,
+        Answer::No(k) => k == u32::from(NotDone::NotGood),
+    }
+}

@@ -1,11 +1,10 @@
 // The rota: whose turn is next, and who of those who wait comes first.
 ghost use Rattle.std.specs.Prelude.{◌≡◌, ◌<◌, ◌≤◌, ◌↔◌, IsTrue, MatchOption};
-ghost use Rattle.power.specs.Board.{Board, ticked};
-ghost use Rattle.power.specs.Mirrors.{SaysAll, Waits, wanted_by};
+ghost use Rattle.power.specs.Mirrors.{Waits, wanted_by};
 ghost use Rattle.power.specs.Rota.{next_of, NobodyWaits, FirstWaits, IsHead};
 
-use crate::counts::one_more;
-use crate::state::{Wanted, Wishes};
+use crate::Keeper;
+use crate::state::Wishes;
 use crate::types::UserId;
 
 pub(crate) fn after(u: UserId) -> UserId
@@ -24,10 +23,10 @@ impl Wishes {
         requires { n < 32 }
         ensures { IsTrue result ↔ Waits (wanted_by self.now n) }
     {
-        matches!(self.get(UserId { n }), Wanted::Asked(..))
+        self.get(UserId { n }).is_asked()
     }
 
-    // The first who waits, of the users from one on, before another.
+    // The first who waits, of the users `from` up to `to`.
     pub(crate) fn first(&self, from: u32, to: u32) -> Option<UserId>
         requires { to ≤ 32 }
         ensures { MatchOption result (NobodyWaits self.now from to) (λ w. FirstWaits self.now from to w.n) }
@@ -42,18 +41,16 @@ impl Wishes {
     {
         self.first(turn.n, 32).or_else(|| self.first(0, turn.n))
     }
+}
 
-    // How many ticks it has been quiet after this one, if it was `quiet` before. While it's quiet nobody waits, and no user is looked at.
-    pub(crate) fn quiet_after(&self, quiet: u32) -> u32
-        requires { 0 < quiet → NobodyWaits self.now 0 32 }
-        ensures { (b : Board) → SaysAll self.now b → quiet ≡ b.quiet → result ≡ (ticked b).quiet }
+impl Keeper {
+    // The first who waits, if anybody does. While it's quiet nobody is looked at.
+    pub(crate) fn head(&self) -> Option<UserId>
+        ensures { MatchOption result (NobodyWaits self.now.wishes 0 32) (λ w. IsHead self.now.wishes self.now.turn.user.n w.n) }
     {
-        if quiet > 0 {
-            return one_more(quiet);
+        if self.idle > 0 {
+            return None;
         }
-        match self.first(0, 32) {
-            Some(_) => 0,
-            None => 1,
-        }
+        self.wishes.head(self.turn.user)
     }
 }

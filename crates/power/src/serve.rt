@@ -13,6 +13,8 @@ use crate::state::{Halt, Request, Wanted};
 use crate::types::UserId;
 use crate::{Answer, Keeper, Parts};
 
+// A user and a request stay two: what is aimed at is a request's, whoever asked. That all of a tick's askings are left (`all`) holds at its
+// beginning and no longer: no type of the driver says it.
 impl Keeper {
     // What u, who asked for r, is to be told, if anything yet.
     pub(crate) fn pursue<P: Parts>(&mut self, b: &mut P, u: UserId, r: Request) -> Option<Answer>
@@ -38,7 +40,7 @@ impl Keeper {
             driver: &mut self.driver,
         };
         match drive.go(aims) {
-            Ok(_) => Some(Answer::Done),
+            Ok(()) => Some(Answer::Done),
             Err(Halt::Spent) => None,
             Err(Halt::Stuck) => Some(Answer::No(NotDone::NotGood.into())),
         }
@@ -60,7 +62,7 @@ impl Keeper {
                 None
             }
             Some(a) => {
-                self.tell(u, r, a);
+                self.tell(u, a);
                 self.tick();
                 Some((u.n, a))
             }

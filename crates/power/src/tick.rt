@@ -1,36 +1,47 @@
 // The end of a tick's work: a user is told, and the tick goes by.
 ghost use Rattle.std.specs.Prelude.{◌≡◌, ◌<◌};
 ghost use Rattle.power.specs.Board.{Board, told, ticked};
-ghost use Rattle.power.specs.Mirrors.{wanted_by};
+ghost use Rattle.power.specs.Mirrors.{SaysAll};
 ghost use Rattle.power.specs.Rota.{NobodyWaits};
 ghost use Rattle.power.specs.Turns.{DoneWith};
 ghost use Rattle.power.specs.Kept.{Mirrors};
-ghost use Rattle.power.specs.declared.state.Wanted.TheVariants.{Asked};
 
-use crate::state::Request;
+use crate::counts::one_more;
 use crate::types::UserId;
 use crate::{Answer, Keeper};
 
 impl Keeper {
-    // u, who asked for r, is told.
-    pub(crate) fn tell(&mut self, u: UserId, r: Request, a: Answer)
-        requires waits { Asked r tt ≡ wanted_by self.old.wishes u.n }
+    // u is told.
+    pub(crate) fn tell(&mut self, u: UserId, a: Answer)
         ensures mirrors { (b : Board) → Mirrors self.old b → Mirrors self.new (told u.n a b) }
         ensures turn { DoneWith u.n self.old.turn self.new.turn }
     {
-        self.wishes.answer(u, r, a);
+        self.wishes.answer(u, a);
         self.driver.answered(a);
         self.turn.over(u);
         self.idle = 0;
     }
 
-    // While it's quiet nobody waits.
+    // For how many ticks it has been quiet after this one.
+    fn quiet_after(&self) -> u32
+        ensures counts { (b : Board) → SaysAll self.now.wishes b → self.now.idle ≡ b.quiet → result ≡ (ticked b).quiet }
+        ensures calm { 0 < result → NobodyWaits self.now.wishes 0 32 }
+    {
+        if self.idle > 0 {
+            return one_more(self.idle);
+        }
+        match self.wishes.first(0, 32) {
+            Some(_) => 0,
+            None => 1,
+        }
+    }
+
+    // The tick goes by: it is counted if it was quiet, and its askings are over.
     pub(crate) fn tick(&mut self)
-        requires { 0 < self.old.idle → NobodyWaits self.old.wishes 0 32 }
         ensures mirrors { (b : Board) → Mirrors self.old b → Mirrors self.new (ticked b) }
         ensures turn { self.new.turn ≡ self.old.turn }
     {
-        self.idle = self.wishes.quiet_after(self.idle);
+        self.idle = self.quiet_after();
         self.driver.rest();
     }
 }

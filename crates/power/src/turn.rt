@@ -21,7 +21,7 @@ impl Turn {
         }
     }
 
-    // It is the turn of u, who asked for r. What to aim at is made if it wasn't yet.
+    // It is the turn of u, who asked for r. What to aim at is made if it wasn't yet: so this asks of the board what `aims` does.
     pub(crate) fn take<P: Parts>(
         &mut self,
         b: &P,
@@ -38,7 +38,7 @@ impl Turn {
     {
         self.user = u;
         if self.aims.is_none() {
-            let found = aims(b, wishes.granted(), r.part, r.level)?;
+            let found = aims(b, wishes.granted(), r)?;
             self.aims = Some(found);
         }
         Ok(())

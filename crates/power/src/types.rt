@@ -24,7 +24,7 @@ impl Level {
     pub const TOP: u32 = 15;
 }
 
-// A user's number: there are 32. A type of its own, though only the bound differs: no user is a part.
+// A user's number: there are 32. Were the two bounds ever alike, one type with a const parameter would make a user a part.
 #[derive(Clone, Copy, Debug, PartialEq, Eq, PartialOrd, Ord)]
 pub struct UserId {
     pub n: u32,
@@ -87,7 +87,7 @@ impl fmt::Display for OutOfRange {
 
 impl Error for OutOfRange {}
 
-// A level for each part, 0 where the part is off.
+// A level for each part, 0 where the part is off. No `Option<Level>`: what is wanted, or needed for it, may be above 15 until it's refused.
 // States and wants have tables like this one; one for all would need a trait of keys and an empty value, for two methods of a line each.
 #[derive(Drop)]
 pub struct Levels {

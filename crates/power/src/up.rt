@@ -1,5 +1,7 @@
 // The way up to a goal below the ceiling: the parts from the first to the last, so that each has what it needs.
+// `came` stands at each of the three ways: what a way has come to is what it promises, and no type holds it.
 ghost use Rattle.std.specs.Prelude.{◌≡◌, ◌<◌, ◌≤◌};
+ghost use Rattle.power.specs.Loans.{SameLoans};
 ghost use Rattle.power.specs.Tables.{at};
 ghost use Rattle.power.specs.Walk.{Up};
 ghost use Rattle.power.specs.Moves.{CameNearer, PartEnds, AllEnd};
@@ -9,7 +11,7 @@ use crate::drive::Drive;
 use crate::state::{Halt, PartState};
 use crate::types::{Aims, Level, PartId};
 
-// A rising part is asked so often whether it's good.
+// How often a rising part is asked whether it's good.
 const TRIES: u32 = 64;
 
 impl<P: Parts> Drive<'_, P> {
@@ -20,12 +22,13 @@ impl<P: Parts> Drive<'_, P> {
         ensures came { CameNearer (at aims.now.goal) self.old.driver.now.left (P.board self.old.board.now) self.new.driver.now.left (P.board self.new.board.now) }
         ensures ends { PartEnds result (P.board self.new.board.now) (at aims.now.goal) x.n self.new.driver.now.left }
         ensures up { Up (P.board self.new.board.now) (at aims.now.ceiling) (at aims.now.goal) x.n }
-        ensures same { (self.new.board.ghost_name ≡ self.old.board.ghost_name) × (self.new.driver.ghost_name ≡ self.old.driver.ghost_name) }
+        ensures same { SameLoans self.old self.new }
     {
         let l = aims.goal.get(x);
         if l == 0 {
             return Ok(());
         }
+        // as long as it may ask: each turn asks once
         while self.driver.left > 0 {
             match self.driver.mirror.get(x) {
                 PartState::Off => self.raise_part(x),
@@ -33,7 +36,7 @@ impl<P: Parts> Drive<'_, P> {
                     if tried.n == TRIES {
                         return Err(Halt::Stuck);
                     }
-                    let _good = self.try_part(x, tried);
+                    let _ = self.try_part(x, tried);
                 }
                 PartState::On(v) => {
                     if v.n >= l {
@@ -51,9 +54,10 @@ impl<P: Parts> Drive<'_, P> {
         requires up { Up (P.board self.old.board.now) (at aims.now.ceiling) (at aims.now.goal) 0 }
         ensures came { CameNearer (at aims.now.goal) self.old.driver.now.left (P.board self.old.board.now) self.new.driver.now.left (P.board self.new.board.now) }
         ensures ends { AllEnd result (P.board self.new.board.now) (at aims.now.goal) self.new.driver.now.left }
-        ensures same { (self.new.board.ghost_name ≡ self.old.board.ghost_name) × (self.new.driver.ghost_name ≡ self.old.driver.ghost_name) }
+        ensures same { SameLoans self.old self.new }
     {
         let n = self.board.parts();
+        // by number, as a board is asked
         for x in 0..n {
             self.raise_to(PartId { n: x }, aims)?;
         }

@@ -2,13 +2,36 @@
 ghost use Rattle.std.specs.Prelude.{◌≡◌, replicate, slice_set};
 ghost use Rattle.power.specs.Board.{Board, None', told, with_wish};
 ghost use Rattle.power.specs.Board.{Asked as AskedAt};
-ghost use Rattle.power.specs.Mirrors.{wanted_by, SaysAll};
-ghost use Rattle.power.specs.declared.state.Wanted.TheVariants.{Nothing, Asked};
+ghost use Rattle.power.specs.Mirrors.{asks, once_told, wanted_by, SaysAll};
+ghost use Rattle.power.specs.declared.state.Wanted.TheVariants.{Nothing};
 
 use crate::Answer;
 use crate::state::{Request, Wanted, Wishes};
 use crate::types::UserId;
 
+impl<A> Wanted<A> {
+    // Does its user wait?
+    pub fn is_asked(&self) -> bool
+        ensures { result ≡ asks self.now }
+    {
+        matches!(self, Wanted::Asked(..))
+    }
+}
+
+impl<A: Copy> Wanted<A> {
+    // What is left of it when its user is told something.
+    pub fn once_told(self, a: Answer) -> Wanted<A>
+        ensures { result ≡ once_told self a }
+    {
+        match (self, a) {
+            (Wanted::Asked(r, _), Answer::Done) => Wanted::Granted(r),
+            (Wanted::Asked(..), Answer::No(_)) => Wanted::Nothing,
+            (other, _) => other,
+        }
+    }
+}
+
+// What is wanted is told as a relation to a board's wishes (`SaysAll`), not as a model: a board counts how old an asking is, and this doesn't.
 impl Wishes {
     pub(crate) fn new() -> Wishes
         ensures { result.wanted ≡ replicate 32 Nothing }
@@ -42,14 +65,10 @@ impl Wishes {
         self.put(u, Wanted::Nothing);
     }
 
-    // A user who waits is told.
-    pub(crate) fn answer(&mut self, u: UserId, r: Request, a: Answer)
-        requires waits { Asked r tt ≡ wanted_by self.old u.n }
+    // A user is told.
+    pub(crate) fn answer(&mut self, u: UserId, a: Answer)
         ensures { (b : Board) → SaysAll self.old b → SaysAll self.new (told u.n a b) }
     {
-        match a {
-            Answer::Done => self.put(u, Wanted::Granted(r)),
-            Answer::No(_) => self.put(u, Wanted::Nothing),
-        }
+        self.put(u, self.get(u).once_told(a));
     }
 }

@@ -1,8 +1,9 @@
 -- The last level holds for all that follow, and what no plan can hold is known.
-use Rattle.std.proofs.Common.{◌≡◌, ℕ, zero, suc, ◌+◌, ◌-◌, ◌<◌, ◌≤◌, Bool, true, leb, List, [], ◌∷◌, ◌++◌, length, take, drop, replicate, Some, None, sym, refl, ap, ◌∙◌, append-nil, arith}
+use Rattle.std.proofs.Common.{◌≡◌, ℕ, zero, suc, ◌+◌, ◌-◌, ◌<◌, ◌≤◌, Bool, true, leb, List, [], ◌∷◌, ◌++◌, length, take, drop, replicate, Some, None, Option, MatchOption, rules, sym, refl, ap, ◌∙◌, append-nil, arith}
 use borrow.Rule.Slice.PartMut.{put_mid}
 use Rattle.std.proofs.lemmas.List.{length_push, length-replicate, drop_all, take-append-drop}
 use Rattle.std.proofs.lemmas.Slice.{drop-put_mid, take-put_mid}
+use Rattle.std.proofs.lemmas.Grind.{common_steps}
 use Rattle.std.proofs.lemmas.Bool.{cond-true, and_from, and_parts, le-leb}
 use Rattle.script.specs.Lines.{spread, each}
 use Rattle.script.specs.Steps.{IsSpread, written, spread_fits, if_spread_fits}
@@ -73,3 +74,8 @@ spread_with top a c levels new h q s k f j =
 -- numbers that stand so do fit
 pub spread_is : (top c : ℕ) (levels ls : List ℕ) → IsSpread top c levels → written c levels ≡ ls → Some (written c levels) ≡ if_spread_fits top ls
 spread_is top c levels ls h e = ap Some e ∙ sym (cond-true (spread_fits top ls) (Some ls) None (ap (spread_fits top) (sym e) ∙ h.fits))
+
+-- one number more after these, if all fit
+pub more_fit : (top n : ℕ) (ns : List ℕ) (was is : Option (List ℕ)) → was ≡ if_spread_fits top ns → MatchOption was (is ≡ None) (λ ms. is ≡ if_spread_fits top (ms ++ n ∷ [])) → is ≡ if_spread_fits top (ns ++ n ∷ [])
+more_fit top n ns None is e h = grind (arith, common_steps)
+more_fit top n ns (Some ms) is e h = search rules

@@ -4,7 +4,7 @@ ghost use Rattle.script.specs.Sources.{Buffered, without_return};
 
 use arrayvec::ArrayVec;
 
-// The line, unless it is longer than there is room for.
+// The line, unless it is longer than there is room for. One that is too long has lost its bytes: so `Buffered` relates it to them, and no model says them.
 #[derive(Clone, Drop)]
 pub struct LineBuffer {
     line: Option<ArrayVec<u8, 4096>>,

@@ -12,4 +12,5 @@ pub mod read;
 pub mod sheet;
 mod sink;
 mod spread;
+mod stream_end;
 pub mod words;

@@ -10,7 +10,7 @@ use std::fmt;
 pub enum Line {
     // a part, and what it draws and needs
     Part(u32, PlanPart),
-    // a part whose needs or draws no plan can hold
+    // a part whose needs or draws no plan can hold: a kind of its own, as what a line says is defined
     Unfit(u32),
     Run,
     New,
@@ -19,7 +19,7 @@ pub enum Line {
     Give(u32),
     Tick(u32),
     Bad(u32),
-    // which part is good when asked for the how manyth time
+    // which part, and at which asking it is good
     Slow(u32, u32),
     Least,
     // what the board gives
@@ -43,14 +43,14 @@ impl fmt::Display for NoLine {
     ghost output = { λ e. Some (reason e) };
 
     fn fmt<W: fmt::Write>(&self, f: &mut fmt::Formatter<W>) -> fmt::Result {
-        match self {
-            NoLine::Empty => write!(f, "empty"),
-            NoLine::UnknownWord => write!(f, "unknown word"),
-            NoLine::MissingWord => write!(f, "missing word"),
-            NoLine::NotANumber => write!(f, "not a number"),
-            NoLine::ExtraWord => write!(f, "extra word"),
-            NoLine::NeverAsked => write!(f, "never asked"),
-        }
+        f.write_str(match self {
+            NoLine::Empty => "empty",
+            NoLine::UnknownWord => "unknown word",
+            NoLine::MissingWord => "missing word",
+            NoLine::NotANumber => "not a number",
+            NoLine::ExtraWord => "extra word",
+            NoLine::NeverAsked => "never asked",
+        })
     }
 }
 

@@ -6,6 +6,7 @@ ghost use Rattle.std.specs.declared.io.ErrorKind.TheVariants.{UnexpectedEof};
 ghost use Rattle.script.specs.Sources.{Buffered, after_line, first_line};
 
 use super::buffer::LineBuffer;
+use super::stream_end::ended;
 use std::io;
 use std::io::{ErrorKind, Read};
 
@@ -55,7 +56,7 @@ impl Lines for SliceLines<'_> {
 }
 
 // The lines of a stream, which is read in pieces. `failed` says that it could not be read to its end: `next_line` has no error to give.
-// What is left of a piece lies from `at` up to `end`: a range would have to be taken apart to be used twice, and a vector can't be read into.
+// What is left of a piece lies from `at` up to `end`: a range would have to be taken apart to be used twice, a vector can't be read into, and a `BufReader` needs a heap.
 #[derive(Drop)]
 pub struct StreamLines<'a, R> {
     input: &'a mut R,
@@ -78,14 +79,18 @@ impl<'a, R: Read> StreamLines<'a, R> {
         }
     }
 
+    // Whether the stream could not be read to its end.
+    pub fn failed(&self) -> bool
+        ensures { result ≡ self.now.failed }
+    {
+        self.failed
+    }
+
     // An error where the stream could not be read to its end.
     pub fn end(&self) -> io::Result<()>
         ensures { MatchResult result (λ _. self.now.failed ≡ false) (λ e. (self.now.failed ≡ true) × (error_kind e ≡ UnexpectedEof)) }
     {
-        if self.failed {
-            return Err(ErrorKind::UnexpectedEof.into());
-        }
-        Ok(())
+        ended(self.failed, ErrorKind::UnexpectedEof)
     }
 
     // Whether there is more: in the piece, or a new one is read.
@@ -98,6 +103,7 @@ impl<'a, R: Read> StreamLines<'a, R> {
         if self.failed {
             return false;
         }
+        // A loop has to end, and an input may be of any length: loops over one count up to `u64::MAX`.
         for _ in 0..u64::MAX {
             match self.input.read(&mut self.piece) {
                 Ok(n) => {

@@ -6,17 +6,15 @@ ghost use Rattle.script.specs.Steps.{Gathered, Levelled, Needed};
 use super::line::NoLine;
 use super::spread::Spread;
 use super::words::Words;
+use power::types::Level;
 use sim::plan::{PlanNeed, PlanPart};
 
-// The highest level that a plan can hold.
-const TOP: u32 = 15;
-
 // The need of at most `most` with these levels, if a plan can hold it.
-fn plan_need(on: u32, levels: Option<Spread<TOP>>, most: u32) -> Option<PlanNeed>
+fn plan_need(on: u32, levels: Option<Spread<{ Level::TOP }>>, most: u32) -> Option<PlanNeed>
     ensures { (ls : List ℕ) → Levelled levels ls → Needed result (record { on = on; levels = ls; most = most }) }
 {
     let least = levels?.levels();
-    if most <= TOP {
+    if most <= Level::TOP {
         Some(PlanNeed { on, least, most })
     } else {
         None

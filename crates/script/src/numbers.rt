@@ -4,7 +4,7 @@ ghost use Rattle.std.specs.Char.{is_ascii_digit};
 ghost use Rattle.std.specs.List.{list_all};
 ghost use Rattle.script.specs.Text.{number_of};
 
-// The number that a word writes; one too large counts as the largest.
+// The number that a word writes; one too large counts as the largest. By hand: `parse` takes a sign, and fails on what is too large.
 pub fn decimal(word: &[u8]) -> Option<u32>
     ensures { result ≡ number_of word.now }
 {

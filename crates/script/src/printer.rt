@@ -1,10 +1,11 @@
-// What is told, printed: through a buffer, so that a line costs no call of the system.
+// What is told, printed: through a buffer, so that a line costs no system call.
 ghost use Rattle.std.specs.Prelude.{◌≡◌, true, false, [], MatchBool, MatchResult};
 ghost use Rattle.std.specs.IoError.{error_kind};
 ghost use Rattle.std.specs.declared.io.ErrorKind.TheVariants.{BrokenPipe};
 ghost use Rattle.script.specs.Sheets.{Waits};
 
 use super::sink::Sink;
+use super::stream_end::ended;
 use arrayvec::ArrayVec;
 use std::io;
 use std::io::{ErrorKind, Write};
@@ -26,14 +27,18 @@ impl<'a, W: Write> Printer<'a, W> {
         }
     }
 
+    // Whether something could not be printed. (`StreamLines` reads such a field too: there is no more to share.)
+    pub fn failed(&self) -> bool
+        ensures { result ≡ self.now.failed }
+    {
+        self.failed
+    }
+
     // An error where something could not be printed.
     pub fn end(&self) -> io::Result<()>
         ensures { MatchResult result (λ _. self.now.failed ≡ false) (λ e. (self.now.failed ≡ true) × (error_kind e ≡ BrokenPipe)) }
     {
-        if self.failed {
-            return Err(ErrorKind::BrokenPipe.into());
-        }
-        Ok(())
+        ended(self.failed, ErrorKind::BrokenPipe)
     }
 
     // Prints what waits in the buffer.
@@ -56,7 +61,7 @@ fn write_whole<W: Write>(out: &mut W, bytes: &[u8]) -> io::Result<()> {
 impl<W: Write> Sink for Printer<'_, W> {
     ghost puts = { λ was bytes is. MatchBool is.failed (Unit {0}) (Waits was.buffer.items bytes is.buffer.items) };
 
-    // Bytes at the end of what waits, or after that was printed.
+    // The bytes wait behind what waits already; that is printed first where there is no room for them.
     fn put(&mut self, bytes: &[u8]) {
         if self.buffer.remaining_capacity() < bytes.len() {
             self.flush();

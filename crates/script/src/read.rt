@@ -15,9 +15,7 @@ use super::words::Words;
 use sim::plan::PlanPart;
 
 // Draws may be of any size.
-const ANY: u32 = u32::MAX;
-
-type Draws = Spread<ANY>;
+type Draws = Spread<{ u32::MAX }>;
 
 // What a text says, or why it says nothing.
 pub fn read_line(text: &[u8]) -> Result<Line, NoLine>
@@ -35,10 +33,7 @@ pub fn read_line(text: &[u8]) -> Result<Line, NoLine>
         b"least" => alone(Line::Least, words),
         b"gives" => one_number(Line::Gives, words),
         b"drawn" => alone(Line::Drawn, words),
-        _ => match decimal(word) {
-            Some(user) => by_user(user, words),
-            None => Err(NoLine::UnknownWord),
-        },
+        _ => by_user(decimal(word).ok_or(NoLine::UnknownWord)?, words),
     }
 }
 
@@ -96,11 +91,11 @@ fn slow(x: u32, n: u32) -> Result<Line, NoLine>
 fn by_user(user: u32, mut words: Words<'_>) -> Result<Line, NoLine>
     ensures { heard result ≡ user_line user words.entry }
 {
-    match words.next() {
-        None => Err(NoLine::MissingWord),
-        Some(b"give") => alone(Line::Give(user), words),
-        Some(b"want") => two_numbers(|x, l| Ok(Line::Want(user, x, l)), words),
-        Some(_) => Err(NoLine::UnknownWord),
+    let word = words.next().ok_or(NoLine::MissingWord)?;
+    match word {
+        b"give" => alone(Line::Give(user), words),
+        b"want" => two_numbers(|x, l| Ok(Line::Want(user, x, l)), words),
+        _ => Err(NoLine::UnknownWord),
     }
 }
 

@@ -5,6 +5,7 @@ use super::sink::Sink;
 use arrayvec::CapacityError;
 
 // The first `len` bytes are written. Where a line had no room, that and all that follow are left out: `len` counts what was written before.
+// The memory is lent by C, and the length before a loss still counts whole lines: so a flag stands beside it.
 #[derive(Drop)]
 pub struct Sheet<'a> {
     text: &'a mut [u8],
@@ -23,6 +24,20 @@ impl<'a> Sheet<'a> {
             len: 0,
             full: false,
         }
+    }
+
+    // How many bytes are written.
+    pub fn len(&self) -> usize
+        ensures { result ≡ self.now.len }
+    {
+        self.len
+    }
+
+    // Whether something had no room.
+    pub fn is_full(&self) -> bool
+        ensures { result ≡ self.now.full }
+    {
+        self.full
     }
 
     // How many bytes are written, or an error where something had no room.

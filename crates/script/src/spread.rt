@@ -12,7 +12,7 @@ use std::marker::Model;
 const MOST_LEVELS: usize = 15;
 
 // The numbers that were read, each at most TOP: `levels` has 0 for off, and then one for each level.
-// An array with a count beside it, since there is no heap.
+// An array with a count beside it, since all sixteen hold at any time: past the count stands the last number.
 #[derive(Drop)]
 pub(crate) struct Spread<const TOP: u32> {
     levels: [u32; 16],
@@ -54,13 +54,6 @@ impl<const TOP: u32> Spread<TOP> {
         Some(self)
     }
 
-    // One more after these, if a plan can hold all (not `and_then`: in generic code nothing is known of what a closure gives).
-    fn and(spread: Option<Spread<TOP>>, n: u32) -> Option<Spread<TOP>>
-        ensures { (ns : List ℕ) → spread.entry ≡ if_spread_fits TOP ns → result ≡ if_spread_fits TOP (ns ++ n ∷ []) }
-    {
-        spread?.with(n)
-    }
-
     // One number or more, up to this word or the end of the line; `None` where no plan can hold them.
     pub(crate) fn read(words: &mut Words<'_>, until: &[u8]) -> Result<Option<Spread<TOP>>, NoLine>
         ensures { MatchResult result (λ s. (ns : List ℕ) × (numbers_to until.now words.old ≡ Some (ns, words.new)) × (s ≡ if_spread_fits TOP ns)) (λ _. numbers_to until.now words.old ≡ None) }
@@ -69,7 +62,11 @@ impl<const TOP: u32> Spread<TOP> {
         let mut read = Spread::new().with(first);
         while let Some(word) = words.next_unless(until) {
             let n = decimal(word).ok_or(NoLine::NotANumber)?;
-            read = Spread::and(read, n);
+            // Here nothing is inferred of what the closure gives: its clause says it.
+            let more = |spread: Spread<TOP>|
+                ensures { result ≡ if_spread_fits TOP (spread.entry ++ n ∷ []) }
+            { spread.with(n) };
+            read = read.and_then(more);
         }
         Ok(read)
     }

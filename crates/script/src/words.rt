@@ -11,7 +11,7 @@ use super::numbers::decimal;
 use std::marker::Model;
 
 // What has not been read yet: the words that are still to come.
-#[derive(Drop)]
+#[derive(Clone, Drop)]
 pub struct Words<'a> {
     rest: &'a [u8],
 }
@@ -88,10 +88,10 @@ impl<'a> Words<'a> {
 fn is_blank(b: u8) -> bool
     ensures { result ≡ is_blank b }
 {
-    b == b' ' || b == b'\t'
+    matches!(b, b' ' | b'\t')
 }
 
-// How many blanks a text begins with.
+// How many blanks a text begins with. (This and the next differ in a test: a function that takes it would be no shorter.)
 fn blanks_len(text: &[u8]) -> usize
     ensures value { result ≡ prefix_len is_blank text.now }
     ensures within { result ≤ length text.now }

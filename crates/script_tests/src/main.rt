@@ -43,7 +43,7 @@ fn show_part<W: fmt::Write>(part: &PlanPart, f: &mut fmt::Formatter<W>) -> fmt::
     if draw.iter().any(|d| *d != 0) {
         write!(f, "\n  draws {draw:?}")?;
     }
-    for need in part.needs.iter().take(part.count as usize) {
+    for need in part.needs() {
         let PlanNeed { on, least, most } = *need;
         write!(f, "\n  {on} {least:?} {most}")?;
     }

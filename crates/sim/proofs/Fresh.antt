@@ -1,29 +1,19 @@
 -- A board in memory with nothing done to it. Assumes nothing.
-use Rattle.std.proofs.Common.{◌≡◌, ℕ, zero, suc, ◌<◌, T, List, get_or, replicate, Some, sym, refl, ap, ◌∙◌, subst, arith}
+use Rattle.std.proofs.Common.{◌≡◌, ℕ, ◌<◌, T, List, get_or, replicate, Some, sym, refl, ap, ◌∙◌, subst, arith}
 use mathlib.Core.Path.{fun_ext}
+use Rattle.std.proofs.lemmas.List.{get_or-replicate}
 use Rattle.power.specs.Board.{Board, Part, Off, Wish, None', AtStart, good_plan}
 use Rattle.power.specs.Mirrors.{part_of}
 use Rattle.power.specs.declared.state.PartState.TheVariants as state
 use Rattle.power.specs.declared.state.Wanted.{Wanted}
 use Rattle.power.specs.declared.state.Wanted.TheVariants as wanted
+use Rattle.power.proofs.Shown.{all_same}
 use Rattle.sim.specs.declared.plan.Plan.{Plan}
 use Rattle.sim.specs.declared.state.SimPart.{SimPart}
 use Rattle.sim.specs.declared.state.Sim.{Sim}
 use Rattle.sim.specs.Boards.{board_of, no_part, wish_of}
 use Rattle.sim.specs.Plans.{board_for, needs_at, draws_at}
 use Rattle.sim.specs.Starts.{Fresh}
-
--- an array all of whose elements f takes to b, as it does the default
-all_same : {A B : Type 0} (f : A → B) (n : ℕ) (a d : A) (b : B) → f a ≡ b → f d ≡ b → (x : ℕ) → f (get_or (replicate n a) x d) ≡ b
-all_same f zero a d b p q x = q
-all_same f (suc n) a d b p q zero = p
-all_same f (suc n) a d b p q (suc x) = all_same f n a d b p q x
-
--- one of the first n is the element
-here : {A : Type 0} (n : ℕ) (a d : A) (x : ℕ) → x < n → get_or (replicate n a) x d ≡ a
-here zero a d x h = absurd (omega arith)
-here (suc n) a d zero h = refl
-here (suc n) a d (suc x) h = here n a d x (omega arith)
 
 -- a part that is off, and good when it's first asked
 abbrev pub at_first : SimPart
@@ -54,7 +44,7 @@ module _ (p : Plan) (s : Sim) (ep : s.plan ≡ p) (es : s.parts ≡ replicate 64
       ∙ ap (λ (l : ℕ). board_with p (λ x. Off) (λ x. 0) (λ u. None') 0 l) el
 
   first : (x : ℕ) → x < 64 → get_or s.parts x no_part ≡ at_first
-  first x h = ap (λ (xs : List SimPart). get_or xs x no_part) es ∙ here 64 at_first no_part x h
+  first x h = ap (λ (xs : List SimPart). get_or xs x no_part) es ∙ get_or-replicate 64 x at_first no_part h
 
   pub fresh : T (good_plan (board_for p)) → Fresh p s
   fresh g =

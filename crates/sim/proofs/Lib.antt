@@ -7,3 +7,4 @@ pub mod Paced
 pub mod Puts
 pub mod Sensible
 pub mod Stepped
+pub mod Told

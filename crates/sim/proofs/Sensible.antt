@@ -1,4 +1,5 @@
 -- The tests of a plan, one after another. Assumes nothing.
+use Rattle.std.proofs.Math.Bool.{and-false}
 use Rattle.std.proofs.lemmas.Bool.{lt-leb}
 use Rattle.std.proofs.Common.{◌≡◌, ℕ, zero, suc, ◌+◌, ◌<◌, Bool, true, false, not, ◌&&◌, ◌==◌, leb, List, [], ◌∷◌, map, length, get_or, sym, refl, ap, subst, add-one, arith, le-leb, MatchBool}
 use Rattle.std.specs.List.{list_all}
@@ -6,14 +7,6 @@ use Rattle.std.specs.List.Sorted.{IsNonDecreasing}
 use Rattle.power.specs.Board.{Need, all, rising, apart}
 use Rattle.sim.specs.declared.plan.PlanNeed.{PlanNeed}
 use Rattle.sim.specs.Plans.{need_of}
-
-pub and_true : (a : Bool) → (a && true) ≡ a
-and_true true = refl
-and_true false = refl
-
-and_false : (a : Bool) → (a && false) ≡ false
-and_false true = refl
-and_false false = refl
 
 -- a test of each need of a list
 pub all_listed : (f : Need → Bool) (ns : List PlanNeed) → list_all (λ n. f (need_of n)) ns ≡ all f (map need_of ns)
@@ -43,7 +36,7 @@ unfolding rising
 rising_down [] k l h = absurd (omega arith)
 rising_down (x ∷ []) k l h = absurd (omega arith)
 rising_down (x ∷ y ∷ xs) zero l h = rw (lt-leb x y h) refl
-rising_down (x ∷ y ∷ xs) (suc k) l h = rw (sym (rising_down (y ∷ xs) k (omega arith) h), and_false (leb x y)) refl
+rising_down (x ∷ y ∷ xs) (suc k) l h = rw (sym (rising_down (y ∷ xs) k (omega arith) h), and-false (leb x y)) refl
 
 -- a list rises exactly if it is sorted
 pub rising_from_sorted : (xs : List ℕ) (r : Bool) → MatchBool r (IsNonDecreasing xs) ((k : ℕ) × (k + 1 < length xs) × ((d : ℕ) → get_or xs (k + 1) d < get_or xs k d)) → r ≡ rising xs

@@ -1,4 +1,5 @@
 // A board in memory is `Parts`. What leaves the paces alone says so by a clause: a method of the trait takes the whole board.
+// A part is read, and put back whole: of a `&mut self.parts[x]`, in a struct that has a ghost field, the borrow checker makes no proof.
 ghost use Rattle.std.specs.Prelude.{◌≡◌, ℕ, ◌<◌, T, if◌then◌else◌};
 ghost use Rattle.power.specs.Board.{Board, put, MayRaise, MayLower, MayLevel, Tries, raised, lowered, levelled, is_rising};
 ghost use Rattle.sim.specs.Boards.{board_of};

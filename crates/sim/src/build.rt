@@ -22,7 +22,7 @@ impl PlanPart {
         }
     }
 
-    // One need more, or a refusal where there are four.
+    // One need more, or a refusal where there are four. (`Plan` has the same of parts: of another array, with another room and another fault.)
     pub fn add(&mut self, need: PlanNeed) -> Result<(), PlanFault>
         ensures { MatchResult result (λ _. (needs_of self.new ≡ needs_of self.old ++ (need_of need ∷ [])) × (self.new.draw ≡ self.old.draw)) (λ _. (self.old.count ≡ 4) × (self.new ≡ self.old)) }
     {
@@ -73,7 +73,8 @@ impl Plan {
         requires { k < length (needs_at self.now.part x) }
         ensures { Tells (need_of result.now) k (needs_at self.now.part x) }
     {
-        &self.part[x as usize].needs()[k as usize]
+        let i = k as usize;
+        &self.part[x as usize].needs()[i]
     }
 
     // What part x draws at level l.

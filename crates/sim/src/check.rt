@@ -5,6 +5,7 @@ ghost use Rattle.power.specs.Board.{rising, good_need, good_draw, apart, all, go
 ghost use Rattle.sim.specs.Plans.{need_of, needs_of, needs_at, draws_at, board_for, sense};
 
 use super::plan::{Plan, PlanNeed, PlanPart};
+use power::types::Level;
 
 // No level needs less, or draws less, than one below it.
 fn rises(least: &[u32; 16]) -> bool
@@ -13,18 +14,20 @@ fn rises(least: &[u32; 16]) -> bool
     least.is_sorted()
 }
 
-fn need_makes_sense(x: u32, need: &PlanNeed) -> bool
-    ensures { result ≡ good_need x (need_of need.now) }
-{
-    let least = need.least;
-    let up = rises(&least);
-    need.on < x && up && least[0] == 0 && 1 <= least[1] && need.most <= 15
+impl PlanNeed {
+    // As a need of part x.
+    fn makes_sense(&self, x: u32) -> bool
+        ensures { result ≡ good_need x (need_of self.now) }
+    {
+        let up = rises(&self.least);
+        self.on < x && up && self.least[0] == 0 && 1 <= self.least[1] && self.most <= Level::TOP
+    }
 }
 
 fn needs_make_sense(x: u32, needs: &[PlanNeed]) -> bool
     ensures { result ≡ list_all (λ n. good_need x (need_of n)) needs.now }
 {
-    needs.iter().all(|need| need_makes_sense(x, need))
+    needs.iter().all(|need| need.makes_sense(x))
 }
 
 // None of these goes to the part that a need goes to.
@@ -45,24 +48,26 @@ fn are_apart(needs: &[PlanNeed]) -> bool
     }
 }
 
-fn all_needs_make_sense(x: u32, part: &PlanPart) -> bool
-    ensures { result ≡ (all (good_need x) (needs_of part.now) && apart (needs_of part.now) && nat_le (length (needs_of part.now)) 4) }
-{
-    let needs = part.needs();
-    needs_make_sense(x, needs) && are_apart(needs)
-}
+impl PlanPart {
+    fn needs_make_sense(&self, x: u32) -> bool
+        ensures { result ≡ (all (good_need x) (needs_of self.now) && apart (needs_of self.now) && nat_le (length (needs_of self.now)) 4) }
+    {
+        let needs = self.needs();
+        needs_make_sense(x, needs) && are_apart(needs)
+    }
 
-fn draw_makes_sense(part: &PlanPart) -> bool
-    ensures { result ≡ good_draw part.now.draw }
-{
-    let draw = part.draw;
-    rises(&draw) && draw[0] == 0
-}
+    fn draw_makes_sense(&self) -> bool
+        ensures { result ≡ good_draw self.now.draw }
+    {
+        rises(&self.draw) && self.draw[0] == 0
+    }
 
-fn part_makes_sense(x: u32, part: &PlanPart) -> bool
-    ensures { result ≡ sense x (needs_of part.now) part.now.draw }
-{
-    all_needs_make_sense(x, part) && draw_makes_sense(part)
+    // As part x.
+    fn makes_sense(&self, x: u32) -> bool
+        ensures { result ≡ sense x (needs_of self.now) self.now.draw }
+    {
+        self.needs_make_sense(x) && self.draw_makes_sense()
+    }
 }
 
 impl Plan {
@@ -70,7 +75,7 @@ impl Plan {
         requires { x < self.now.parts }
         ensures { result ≡ sense x (needs_at self.now.part x) (draws_at self.now.part x) }
     {
-        part_makes_sense(x, &self.part[x as usize])
+        self.part[x as usize].makes_sense(x)
     }
 
     pub fn makes_sense(&self) -> bool

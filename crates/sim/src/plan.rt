@@ -15,7 +15,7 @@ pub struct PlanNeed {
 }
 
 // What one part needs: the first `count` of these; and what it draws at level l: `draw[l]`.
-// An array and a count, here and in a plan: a plan is copied without a heap, which the kit's vector of a fixed room is not.
+// An array and a count, here and in a plan: both are copied as they are. The kit's vector of a fixed room isn't `Copy`, and its `clone` can fail.
 #[derive(Clone, Copy, Debug, PartialEq, Eq)]
 pub struct PlanPart {
     pub count: u32,

@@ -5,6 +5,7 @@ ghost use Rattle.sim.specs.Starts.{Started};
 
 use super::plan::{Plan, PlanFault};
 use super::state::{Sim, SimPart};
+use power::ASKINGS;
 use power::state::{PartState, Wanted};
 
 // A part that is off, and good when it's first asked.
@@ -28,7 +29,7 @@ impl Sim {
             parts: [AT_FIRST; 64],
             wishes: [Wanted::Nothing; 32],
             quiet: 0,
-            left: 1024,
+            left: ASKINGS,
         })
     }
 }

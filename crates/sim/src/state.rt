@@ -16,7 +16,7 @@ pub struct SimPart {
     pub next_pace: Option<u32>,
 }
 
-// The plan makes sense. Of a want that waits it's known how many ticks ago it was asked.
+// The plan makes sense; it stays as it was checked, and what becomes of its parts stands beside it. Of a want that waits it's known how many ticks ago it was asked.
 #[derive(Drop)]
 pub struct Sim {
     pub plan: Plan,

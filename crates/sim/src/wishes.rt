@@ -1,22 +1,10 @@
 // What becomes of users' wishes when they are told something, and as time goes by.
 ghost use Rattle.std.specs.Prelude.{◌≡◌, ℕ, ◌<◌, true, length, slice_index_or};
-ghost use Rattle.power.specs.Board.{told_of, older, young, is_asked, some'};
+ghost use Rattle.power.specs.Board.{older, young, is_asked, some'};
 ghost use Rattle.power.specs.declared.state.Wanted.TheVariants.{Nothing};
 ghost use Rattle.sim.specs.Boards.{wish_of};
 
-use power::Answer;
 use power::state::Wanted;
-
-// What's left of a wish when its user is told something.
-pub(crate) fn once_told(wanted: Wanted<u32>, answer: Answer) -> Wanted<u32>
-    ensures { wish_of result ≡ told_of (wish_of wanted) answer }
-{
-    match (wanted, answer) {
-        (Wanted::Asked(request, _), Answer::Done) => Wanted::Granted(request),
-        (Wanted::Asked(_, _), Answer::No(_)) => Wanted::Nothing,
-        (other, _) => other,
-    }
-}
 
 // The same wish, a tick later.
 fn a_tick_older(wanted: Wanted<u32>) -> Wanted<u32>
@@ -29,12 +17,6 @@ fn a_tick_older(wanted: Wanted<u32>) -> Wanted<u32>
     }
 }
 
-fn is_asked(wanted: &Wanted<u32>) -> bool
-    ensures { result ≡ is_asked (wish_of wanted.now) }
-{
-    matches!(wanted, Wanted::Asked(..))
-}
-
 // All wishes, a tick later; whether one of them was asked.
 pub(crate) fn let_tick_pass(wishes: &mut [Wanted<u32>; 32]) -> bool
     requires { (k : ℕ) → k < 32 → young (wish_of (slice_index_or wishes.old k Nothing)) ≡ true }
@@ -42,7 +24,7 @@ pub(crate) fn let_tick_pass(wishes: &mut [Wanted<u32>; 32]) -> bool
     ensures long { length wishes.new ≡ 32 }
     ensures each { (k : ℕ) → wish_of (slice_index_or wishes.new k Nothing) ≡ older (wish_of (slice_index_or wishes.old k Nothing)) }
 {
-    let waiting = wishes.iter().any(is_asked);
+    let waiting = wishes.iter().any(|wanted| wanted.is_asked());
     for wanted in wishes.iter_mut() {
         *wanted = a_tick_older(*wanted);
     }

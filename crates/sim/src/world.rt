@@ -1,26 +1,16 @@
 // A board in memory is a `World`, of which nobody asks anything: whoever has users puts them before it.
 ghost use Rattle.std.specs.Prelude.{◌≡◌, ◌<◌, T};
-ghost use Rattle.power.specs.Board.{with_wish, is_six, why, called, may_tell, told, in_time, ticked};
+ghost use Rattle.power.specs.Board.{with_wish, why, called, may_tell, told, in_time, ticked};
 ghost use Rattle.sim.specs.Boards.{board_of, wish_of, anew};
 ghost use Rattle.sim.specs.Paces.{SamePaces};
 
 use super::state::{Sim, SimPart};
-use super::wishes::{let_tick_pass, once_told};
+use super::wishes::let_tick_pass;
 use power::counts::one_more;
-use power::not_done::NotDone;
+use power::not_done::is_not_good;
 use power::state::{Request, Wanted};
 use power::types::{Level, PartId};
-use power::{Answer, Call, Next, World};
-
-// After a 6 every rising part is tried anew.
-fn is_six(a: Answer) -> bool
-    ensures { result ≡ is_six a }
-{
-    match a {
-        Answer::Done => false,
-        Answer::No(k) => k == u32::from(NotDone::NotGood),
-    }
-}
+use power::{ASKINGS, Answer, Call, Next, World};
 
 impl SimPart {
     // The same part, tried anew.
@@ -78,14 +68,15 @@ impl World for Sim {
         }
     }
 
+    #[tactic(auto, using(crate::proofs::Told::wish_told))]
     fn told(&mut self, u: u32, a: Answer)
         requires { T (may_tell (board_of self.old) u a) }
         ensures does { board_of self.new ≡ told u a (board_of self.old) }
         ensures paces { SamePaces self.old self.new }
     {
         let w = self.wishes[u as usize];
-        self.set_wish(u, once_told(w, a));
-        if is_six(a) {
+        self.set_wish(u, w.once_told(a));
+        if is_not_good(a) {
             self.try_anew();
         }
     }
@@ -97,6 +88,6 @@ impl World for Sim {
     {
         let waiting = let_tick_pass(&mut self.wishes);
         self.quiet = if waiting { 0 } else { one_more(self.quiet) };
-        self.left = 1024;
+        self.left = ASKINGS;
     }
 }

@@ -28,14 +28,14 @@ impl Random {
 fn random_least(r: &mut Random) -> [u32; 16] {
     let mut least = [0u32; 16];
     let mut level = 1;
-    for least in least.iter_mut().skip(1) {
-        *least = level;
+    for entry in least.iter_mut().skip(1) {
+        *entry = level;
         if r.below(4) == 0 {
             level = r.below(3).saturating_add(level);
         }
     }
     if r.below(200) == 0 {
-        least[15] = 4294967295;
+        least[15] = u32::MAX;
     }
     if r.below(200) == 0 {
         least[7] = r.below(4);
@@ -64,12 +64,12 @@ fn has(part: &PlanPart, on: u32) -> bool {
     part.needs().iter().any(|need| need.on == on)
 }
 
-// Draws that never fall, for the most part.
+// Draws that never fall, for the most part: they climb more often than levels, and break otherwise, so the two share no more than a loop.
 fn random_draw(r: &mut Random) -> [u32; 16] {
     let mut draw = [0u32; 16];
     let mut sum = r.below(3);
-    for draw in draw.iter_mut().skip(1) {
-        *draw = sum;
+    for entry in draw.iter_mut().skip(1) {
+        *entry = sum;
         sum = r.below(3).saturating_add(sum);
     }
     if r.below(200) == 0 {

@@ -3,28 +3,31 @@ use power::types::Levels;
 use sim::plan::{Plan, PlanNeed, PlanPart};
 
 // The part that is needed is lower than a part at this level needs it.
-fn is_too_low(need: &PlanNeed, level: u32, f: &[u32; 64]) -> bool {
-    match (f.get(need.on as usize), need.least.get(level as usize)) {
-        (Some(is), Some(least)) => is < least,
+fn is_too_low(need: &PlanNeed, level: u32, levels: &[u32; 64]) -> bool {
+    match (levels.get(need.on as usize), need.least.get(level as usize)) {
+        (Some(found), Some(least)) => found < least,
         _ => false,
     }
 }
 
 // A need of a part at this level that is too low for it.
-fn need_too_low(part: &PlanPart, level: u32, f: &[u32; 64]) -> Option<usize> {
-    let need = part.needs().iter().find(|need| is_too_low(need, level, f))?;
+fn need_too_low(part: &PlanPart, level: u32, levels: &[u32; 64]) -> Option<usize> {
+    let need = part
+        .needs()
+        .iter()
+        .find(|need| is_too_low(need, level, levels))?;
     Some(need.on as usize)
 }
 
 // A part that is lower than it's wanted, or than what a part that isn't off needs.
-fn too_low(plan: &Plan, want: &Levels, f: &[u32; 64]) -> Option<usize> {
+fn too_low(plan: &Plan, want: &Levels, levels: &[u32; 64]) -> Option<usize> {
     let parts = &plan.part[..plan.parts as usize];
-    for (x, ((part, level), wanted)) in parts.iter().zip(f).zip(&want.of).enumerate() {
+    for (x, ((part, level), wanted)) in parts.iter().zip(levels).zip(&want.of).enumerate() {
         if level < wanted {
             return Some(x);
         }
         if *level > 0 {
-            let low = need_too_low(part, *level, f);
+            let low = need_too_low(part, *level, levels);
             if low.is_some() {
                 return low;
             }
@@ -34,8 +37,8 @@ fn too_low(plan: &Plan, want: &Levels, f: &[u32; 64]) -> Option<usize> {
 }
 
 // No need of a part is higher than the part allows.
-fn within(part: &PlanPart, f: &[u32; 64]) -> bool {
-    part.needs().iter().all(|need| match f.get(need.on as usize) {
+fn within(part: &PlanPart, levels: &[u32; 64]) -> bool {
+    part.needs().iter().all(|need| match levels.get(need.on as usize) {
         Some(level) => *level <= need.most,
         None => true,
     })
@@ -50,17 +53,18 @@ fn draw(part: &PlanPart, level: u32) -> u64 {
 
 // The levels, or none where one would have to be above 15, or above what a part allows, or more is drawn than is given.
 pub fn lowest(plan: &Plan, want: &Levels) -> Option<[u32; 64]> {
-    let mut f = [0u32; 64];
+    let mut levels = [0u32; 64];
+    // 64 parts, each raised 15 times at most
     for _ in 0..1024 {
-        match too_low(plan, want, &f) {
-            Some(x) if x < 64 && f[x] < 15 => f[x] += 1,
+        match too_low(plan, want, &levels) {
+            Some(x) if x < 64 && levels[x] < 15 => levels[x] += 1,
             Some(_) => return None,
             None => break,
         }
     }
     let mut drawn: u64 = 0;
-    for (part, level) in plan.part[..plan.parts as usize].iter().zip(&f) {
-        if *level > 0 && !within(part, &f) {
+    for (part, level) in plan.part[..plan.parts as usize].iter().zip(&levels) {
+        if *level > 0 && !within(part, &levels) {
             return None;
         }
         drawn = drawn.saturating_add(draw(part, *level));
@@ -68,5 +72,5 @@ pub fn lowest(plan: &Plan, want: &Levels) -> Option<[u32; 64]> {
     if drawn > u64::from(plan.gives) {
         return None;
     }
-    Some(f)
+    Some(levels)
 }

@@ -3,7 +3,7 @@ use Rattle.script.specs.Lines.{only, user_line, want}
 use Rattle.script.proofs.Listed.{first_is}
 use Rattle.script.proofs.read.by_user.Goals as goal
 
-pub returns-in-Some-want : goal.returns-in-Some-want
-returns-in-Some-want c =
+pub returns-in-want : goal.returns-in-want
+returns-in-want c =
     let u = c.args.user in
-    c.two_numbers.ensures (λ x l. only (want u x l)) (λ m n r ws p. search rules) ∙ sym (first_is (user_line u) (codes "want") c.in-Some-want.field-0.now c.args.words c.next.new.self c.in-Some-want.ensures.steps (omega arith) (search rules))
+    c.two_numbers.ensures (λ x l. only (want u x l)) (λ m n r ws p. search rules) ∙ sym (first_is (user_line u) (codes "want") c.in_ok-word.word.now c.args.words c.next.new.self (search rules) (omega arith) (search rules))

@@ -1,6 +1,6 @@
 -- What each first word says.
 use Rattle.std.proofs.Common.{◌≡◌, ℕ, None, Option, ◌∷◌, ap, codes, sym, ◌∙◌, arith, rules}
-use Rattle.script.specs.Lines.{after, line_of, user_line, tick, bad, gives, slow_line}
+use Rattle.script.specs.Lines.{after, heard, line_of, user_line, tick, bad, gives, slow_line}
 use Rattle.script.specs.Text.{number_of, words_of}
 use Rattle.script.proofs.Listed.{first_is, other_first, unlike}
 use Rattle.script.proofs.read.read_line.Goals as goal
@@ -21,8 +21,8 @@ pub returns-in-slow : goal.returns-in-slow
 returns-in-slow c =
     c.two_numbers.ensures slow_line (λ m n r ws p. p ws) ∙ sym (first_is line_of (codes "slow") c.in_ok-word.word.now (words_of c.args.text.now) c.next.new.self (search rules) (omega arith) (search rules))
 
-pub returns-in-None : goal.returns-in-None
-returns-in-None c =
+pub returns-in_err-ok_or-in_default : goal.returns-in_err-ok_or-in_default
+returns-in_err-ok_or-in_default c =
     let w = c.in_ok-word.word.now in
     let ws = c.next.new.self in
     let part = unlike w (codes "part") (λ l a b d e f. grind arith) in
@@ -36,4 +36,5 @@ returns-in-None c =
     let drawn = unlike w (codes "drawn") (λ l a b d e f. grind arith) in
     let first : words_of c.args.text.now ≡ w ∷ ws = search rules in
     let none : number_of w ≡ None = search rules in
-    sym (ap line_of first ∙ other_first w ws part run new tick bad slow least gives drawn ∙ ap (λ (o : Option ℕ). after o (λ u. user_line u ws)) none)
+    let refused : heard c.from_residual-in_err-ok_or-in_default.result ≡ None = search rules in
+    refused ∙ sym (ap line_of first ∙ other_first w ws part run new tick bad slow least gives drawn ∙ ap (λ (o : Option ℕ). after o (λ u. user_line u ws)) none)

@@ -17,6 +17,7 @@ a_tick_older-requires c =
     ap (λ w. young (wish_of w)) (get_or_default l.wishes l.wanted-index c.wanted-item.result Nothing h ∙ l.invariant.2 l.wanted-index (omega arith)) ∙ c.requires l.wanted-index c.loop-wanted-test.true
 
 pub returns-clause-asked : goal.returns-clause-asked
+unfolding is_asked
 returns-clause-asked c =
     let ws = c.args.wishes.now in
     any_from_yields_List (λ w. is_asked (wish_of w)) _ _ c.any-waiting.result c.any-waiting.ensures.ran (YieldsList-from_slice ws c.iter.ensures.rest) (λ w b q k. search rules)

@@ -6,5 +6,5 @@ use Rattle.power.proofs.datasheet.DataSheet.least_alone.Goals as goal
 
 pub returns : goal.returns
 returns g c =
-    finds_same (g.P.Parts.board c.args.self.now.board.now) (and_also (at c.new.result) c.args.x.n c.args.l.n) (and_also (λ (z : ℕ). 0) c.args.x.n c.args.l.n) c.least_with.result
-    (alone_at c.new.result.of c.args.x.n c.args.l.n c.new.ensures) c.least_with.ensures
+    finds_same (g.P.Parts.board c.args.self.now.board.now) (and_also (at c.new.result) c.args.request.part.n c.args.request.level.n) (and_also (λ (z : ℕ). 0) c.args.request.part.n c.args.request.level.n) c.least_with.result
+    (alone_at c.new.result.of c.args.request.part.n c.args.request.level.n c.new.ensures) c.least_with.ensures

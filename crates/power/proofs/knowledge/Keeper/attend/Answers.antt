@@ -1,6 +1,6 @@
-use Rattle.std.proofs.Common.{ap, arith}
+use Rattle.std.proofs.Common.{ap}
 use Rattle.power.specs.declared.types.UserId.{UserId}
-use Rattle.power.proofs.KeptTicks.{asked_said, not_quiet, head_aims, worked_spent, worked_told}
+use Rattle.power.proofs.KeptTicks.{asked_said, head_aims, worked_spent, worked_told}
 use Rattle.power.proofs.knowledge.Keeper.attend.Goals as goal
 
 pub pursue-requires : goal.pursue-requires
@@ -18,19 +18,6 @@ pursue-requires g c =
       all = c.requires.all;
       aims = head_aims k k b u.n r.part.n r.level.n a.0 m u.below a.1 c.requires.head;
     }
-
-pub tick-requires : goal.tick-requires
-tick-requires g c =
-    let k = c.args.self.now in
-    let b = g.P.Parts.board c.args.b.now in
-    let u = c.args.u in
-    let r = c.in-Asked.r in
-    let m = c.requires.kept in
-    let a = asked_said k b u.n r m.mirrors c.in-Asked.ensures in
-    λ q. absurd (omega (arith, c.in-None.ensures.mirrors.idle, c.in-None.ensures.only.quiet, not_quiet k k b u.n r.part.n r.level.n a.0 m u.below a.1 c.requires.head))
-
-pub tick-requires-in-Some : goal.tick-requires-in-Some
-tick-requires-in-Some g c = λ q. absurd (omega (arith, (c.tell.ensures.mirrors _ c.in-Some.ensures.mirrors).idle))
 
 pub returns-in-None : goal.returns-in-None
 returns-in-None g c =

@@ -9,4 +9,4 @@ returns c =
     let ps = c.args.self.now.part in
     let x = c.args.x in
     let h : x < length ps = omega arith in
-    subst₂ (λ ns ds. c.part_makes_sense.result ≡ sense x ns ds) (sym (needs_at_lem ps x _ h)) (sym (draws_at_lem ps x _ h)) c.part_makes_sense.ensures
+    subst₂ (λ ns ds. c.makes_sense.result ≡ sense x ns ds) (sym (needs_at_lem ps x _ h)) (sym (draws_at_lem ps x _ h)) c.makes_sense.ensures
