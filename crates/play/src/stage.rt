@@ -147,6 +147,7 @@ impl<L: Lines, S: Say> World for Stage<'_, '_, '_, L, S> {
         Next::Over
     }
 
+    // `no` is a number, 0 where the call was taken: so the trait says it.
     fn said(&mut self, c: Call, no: u32) {
         self.sim.said(c, no);
         self.session.say(if no == 0 {

@@ -35,7 +35,7 @@ impl<P: Parts> DataSheet<'_, P> {
     }
 }
 
-// The same, of a board.
+// The same, of a board. It asks for what a data sheet's type says, since callers have a board and no sheet.
 pub fn aims<P: Parts>(b: &P, granted: Levels, request: Request) -> Result<Aims, CantBe>
     requires few { (P.board b.now).parts ≤ 64 }
     requires plan { T (good_plan (P.board b.now)) }

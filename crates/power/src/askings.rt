@@ -1,6 +1,6 @@
 // What is asked of the board: one method for each thing, that changes the board and what is known of it together. One that takes what to ask as a
 // closure would be no plainer: the four require and do another thing each, and all they share is the count.
-// `may` is what the data sheet asks; `can` is the budget of this tick.
+// `may` is what the data sheet asks; `can` is the budget of this tick, which falls with each asking (`spends`): so no type says it.
 ghost use Rattle.std.specs.Prelude.{◌≡◌, ◌+◌, ◌<◌};
 ghost use Rattle.power.specs.Loans.{SameLoans};
 ghost use Rattle.power.specs.Board.{MayRaise, MayLower, MayLevel, Tries, raised, lowered, levelled};

@@ -1,4 +1,4 @@
-// What the keeper is.
+// What the keeper is. What it tells is told as numbers where the fixed text of its methods `call` and `work` says so.
 ghost use Rattle.std.specs.Prelude.{◌<◌, ◌≤◌};
 ghost use Rattle.std.proofs.Props.{props};
 ghost use Rattle.power.specs.Rota.{NobodyWaits};

@@ -129,7 +129,7 @@ impl<'b, P: Parts> DataSheet<'b, P> {
     }
 }
 
-// The same, of a board.
+// The same, of a board. It asks for what a data sheet's type says, since callers have a board and no sheet.
 pub fn least<P: Parts>(b: &P, want: &Levels) -> Result<Levels, CantBe>
     requires few { (P.board b.now).parts ≤ 64 }
     requires plan { T (good_plan (P.board b.now)) }

@@ -53,6 +53,7 @@ fn show_part<W: fmt::Write>(part: &PlanPart, f: &mut fmt::Formatter<W>) -> fmt::
 fn show_events(rt: &HostRuntime) {
     let mut out = rt.stdout();
     let mut printer = Printer::new(&mut out);
+    // three parts, by their numbers
     for k in 0..3 {
         printer.say(Event::Raise(k));
         printer.say(Event::Level(k, 15));
@@ -69,6 +70,7 @@ fn main(rt: HostRuntime) -> io::Result<()> {
     let mut input = rt.stdin();
     let mut lines = StreamLines::new(&mut input);
     let mut line = LineBuffer::new();
+    // a loop has to end: the input has fewer lines
     for _ in 0..1000u32 {
         if !lines.next_line(&mut line) {
             break;

@@ -48,6 +48,7 @@ impl World for Sim {
         Next::Over
     }
 
+    // `no` is a number, 0 where the call was taken: so the trait says it.
     fn said(&mut self, c: Call, no: u32)
         requires { no ≡ why c (board_of self.old) }
         ensures does { board_of self.new ≡ called c (board_of self.old) }

@@ -29,6 +29,7 @@ fn trial(r: &mut Random, count: &mut Count) {
     };
     let mut want = Levels::new();
     if plan.parts > 0 {
+        // so many wants: no slice is gone through
         for _ in 0..4 {
             let n = r.below(plan.parts);
             want.put(PartId { n }, r.below(17));
@@ -53,6 +54,7 @@ fn trial(r: &mut Random, count: &mut Count) {
 fn main(rt: HostRuntime) -> io::Result<()> {
     let mut r = Random { state: 1 };
     let mut count = Count::default();
+    // so many plans: no slice is gone through
     for _ in 0..600 {
         trial(&mut r, &mut count);
     }

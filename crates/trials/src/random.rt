@@ -85,6 +85,7 @@ fn random_part(r: &mut Random, x: u32) -> PlanPart {
     if x == 0 {
         return part;
     }
+    // so many needs, each drawn at random: none is read from a slice
     for _ in 0..r.below(5) {
         let need = random_need(r, x);
         if !has(&part, need.on) {
@@ -96,6 +97,7 @@ fn random_part(r: &mut Random, x: u32) -> PlanPart {
 
 pub fn random_plan(r: &mut Random) -> Plan {
     let mut plan = Plan::none();
+    // so many parts, each drawn by its number
     for x in 0..r.below(12) {
         let _ = plan.add(random_part(r, x));
     }
