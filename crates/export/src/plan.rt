@@ -64,6 +64,7 @@ fn write_levels(levels: &Levels, out: &mut [u32])
 }
 
 // The board of a plan, if it is one.
+#[inline(always)]
 fn board(plan: &[u8]) -> Result<Sim, Refused> {
     let mut lines = SliceLines { rest: plan };
     read_board(&mut lines).ok_or(Refused::NoPlan)
@@ -79,7 +80,10 @@ fn write_least(plan: &[u8], wants: &[u32], levels: &mut [u32]) -> Result<(), Ref
 // Does a plan make sense? 0, or the number of a refusal.
 #[unsafe(no_mangle)]
 pub extern "C" fn tizgulk_check(plan: &[u8]) -> u32 {
-    board(plan).err().map_or(0, u32::from)
+    match board(plan) {
+        Ok(_) => 0,
+        Err(e) => e.into(),
+    }
 }
 
 // The least levels of a plan's parts, where wants[x] is the level wanted of part x, 0 if it isn't wanted: 0, or the number of a refusal.

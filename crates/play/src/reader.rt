@@ -73,6 +73,7 @@ impl Reader {
     }
 
     // What the last line says.
+    #[inline(always)]
     fn says(&self) -> Result<Line, Unclear>
         ensures { (bs : List ℕ) → Buffered self.now.line bs → Says bs result }
     {

@@ -10,9 +10,9 @@ use script::lines::Lines;
 
 #[derive(Drop)]
 pub struct Session<'a, 'b, L, S> {
-    lines: &'a mut L,
-    reader: Reader,
-    out: &'b mut S,
+    pub lines: &'a mut L,
+    pub reader: Reader,
+    pub out: &'b mut S,
 }
 
 impl<'a, 'b, L: Lines, S: Say> Session<'a, 'b, L, S> {
@@ -30,6 +30,7 @@ impl<'a, 'b, L: Lines, S: Say> Session<'a, 'b, L, S> {
     }
 
     // The next line, if there is one.
+    #[inline(always)]
     pub(crate) fn next(&mut self) -> Option<Result<Line, Unclear>>
         ensures { self.new.reader.number ≡ number_after result self.old.reader.number }
     {

@@ -25,10 +25,10 @@ TriedIs state.Off t = Unit {0}
 TriedIs (state.Rising n) t = t ≡ n.n
 TriedIs (state.On l) t = Unit {0}
 
-pub TriedIs-prop : (s : PartState Tried) (t : ℕ) → IsProp (TriedIs s t)
-TriedIs-prop state.Off t = Unit-prop
-TriedIs-prop (state.Rising n) t = Coded-set coded_ℕ t n.n
-TriedIs-prop (state.On l) t = Unit-prop
+pub tried_is_prop : (s : PartState Tried) (t : ℕ) → IsProp (TriedIs s t)
+tried_is_prop state.Off t = Unit-prop
+tried_is_prop (state.Rising n) t = Coded-set coded_ℕ t n.n
+tried_is_prop (state.On l) t = Unit-prop
 
 abbrev pub state_at : Mirror → ℕ → PartState Tried
 state_at m x = slice_index_or m.states x state.Off

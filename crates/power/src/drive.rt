@@ -1,7 +1,7 @@
 // The board and its driver, which go together while the board is asked anything.
 ghost use Rattle.std.specs.Prelude.{◌≤◌};
 ghost use Rattle.std.proofs.Props.{props};
-ghost use Rattle.power.specs.Mirrors.{Knows, TriedIs-prop};
+ghost use Rattle.power.specs.Mirrors.{Knows, tried_is_prop};
 ghost use Rattle.power.specs.Sound.{Sound};
 
 use crate::Parts;
@@ -15,5 +15,5 @@ pub(crate) struct Drive<'a, P: Parts> {
     pub(crate) driver: &'a mut Driver,
     ghost few: { (P.board board.now).parts ≤ 64 },
     ghost sound: { Sound (P.board board.now) } by { Prim.hlevel props },
-    ghost knows: { Knows driver.now (P.board board.now) } by { Prim.hlevel (props, TriedIs-prop) },
+    ghost knows: { Knows driver.now (P.board board.now) } by { Prim.hlevel (props, tried_is_prop) },
 }

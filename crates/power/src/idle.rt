@@ -45,6 +45,6 @@ impl Keeper {
             };
             drive.settle(&self.wishes);
         }
-        self.tick();
+        self.quiet_tick();
     }
 }

@@ -1,5 +1,5 @@
 // What the keeper is. What it tells is told as numbers where the fixed text of its methods `call` and `work` says so.
-ghost use Rattle.std.specs.Prelude.{◌<◌, ◌≤◌};
+ghost use Rattle.std.specs.Prelude.{◌<◌};
 ghost use Rattle.std.proofs.Props.{props};
 ghost use Rattle.power.specs.Rota.{NobodyWaits};
 
@@ -14,6 +14,5 @@ pub struct Keeper {
     pub(crate) turn: Turn,
     // for how many ticks it has been quiet
     pub(crate) idle: u32,
-    ghost few: { parts ≤ 64 },
     ghost calm: { 0 < idle → NobodyWaits wishes 0 32 } by { Prim.hlevel props },
 }

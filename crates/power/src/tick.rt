@@ -44,4 +44,14 @@ impl Keeper {
         self.idle = self.quiet_after();
         self.driver.rest();
     }
+
+    // The same where nobody waits: no user is looked at again.
+    pub(crate) fn quiet_tick(&mut self)
+        requires nobody { NobodyWaits self.old.wishes 0 32 }
+        ensures mirrors { (b : Board) → Mirrors self.old b → Mirrors self.new (ticked b) }
+        ensures turn { self.new.turn ≡ self.old.turn }
+    {
+        self.idle = one_more(self.idle);
+        self.driver.rest();
+    }
 }

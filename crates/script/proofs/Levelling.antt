@@ -27,10 +27,10 @@ filled a xs ys h e =
     let rest : drop (length xs) whole ≡ [] = drop-put_mid a (length xs - a) xs ys (length xs) (omega arith) h e ∙ drop_all (length xs) xs (omega arith) in
     sym (take-append-drop (length xs) whole) ∙ ap (λ (zs : List ℕ). take (length xs) whole ++ zs) rest ∙ append-nil (take (length xs) whole) ∙ take-put_mid a (length xs - a) xs ys (length xs) (omega arith) h
 
-length-spread : (n l : ℕ) (ls : List ℕ) → length (spread n l ls) ≡ n
-length-spread zero l ls = refl
-length-spread (suc n) l [] = ap suc (length-spread n l [])
-length-spread (suc n) l (m ∷ ls) = ap suc (length-spread n m ls)
+length_spread : (n l : ℕ) (ls : List ℕ) → length (spread n l ls) ≡ n
+length_spread zero l ls = refl
+length_spread (suc n) l [] = ap suc (length_spread n l [])
+length_spread (suc n) l (m ∷ ls) = ap suc (length_spread n m ls)
 
 module _ {A : Type 0} (f : A → Bool) where
   pub each_push : (xs : List A) (x : A) → each f xs ≡ true → f x ≡ true → each f (xs ++ x ∷ []) ≡ true
@@ -46,7 +46,7 @@ fits_more top a ls t h l =
 -- one more of sixteen levels
 spread_more : (levels ls new : List ℕ) (a c : ℕ) → levels ≡ 0 ∷ spread 15 0 ls → length ls ≡ c → c < 15 → new ≡ replicate (length levels - (c + 1)) a → put_mid (c + 1) (length levels - (c + 1)) levels new ≡ 0 ∷ spread 15 0 (ls ++ a ∷ [])
 spread_more levels ls new a c e n h f =
-    let long : length levels ≡ 16 = omega (arith, ap length e, length-spread 15 0 ls) in
+    let long : length levels ≡ 16 = omega (arith, ap length e, length_spread 15 0 ls) in
     let k : length levels - (c + 1) ≡ suc (14 - c) = omega arith in
     let s : c + 1 ≡ suc (length ls) = omega arith in
     filled (c + 1) levels new (omega arith) (ap length f ∙ length-replicate (length levels - (c + 1)) a)

@@ -1,3 +1,4 @@
+mod Alone
 mod Counted
 mod Formed
 mod Levelling

@@ -130,7 +130,7 @@ draws_stop x ds w (u ∷ us) vs s e =
     cond-true (bytes_eq u (codes "needs")) (needs_line x ds us) _ s ∙ ap (needs_line x ds) rest
 
 -- a number, and then what follows
-number_first : {A : Type 0} (f : ℕ → List (List ℕ) → Option A) (n : ℕ) (ws vs : List (List ℕ)) → Began n ws vs → with_number f ws ≡ f n vs
+pub number_first : {A : Type 0} (f : ℕ → List (List ℕ) → Option A) (n : ℕ) (ws vs : List (List ℕ)) → Began n ws vs → with_number f ws ≡ f n vs
 number_first f n ws vs b = ap (with_number f) b.front ∙ after_some (λ a. f a vs) _ n b.value
 
 -- two numbers, and then what follows

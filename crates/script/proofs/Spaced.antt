@@ -16,7 +16,7 @@ module _ (p : ℕ → Bool) (b : ℕ) (bs : List ℕ) where
   stopped e = cond-false (p b) (1 + prefix_len p bs) 0 e
 
 -- a blank in front is passed over
-words_blank : (b : ℕ) (bs : List ℕ) → is_blank b ≡ true → words_of (b ∷ bs) ≡ words_of bs
+pub words_blank : (b : ℕ) (bs : List ℕ) → is_blank b ≡ true → words_of (b ∷ bs) ≡ words_of bs
 words_blank b bs e = cond-true (is_blank b) (words_of bs) (words_after (b ∷ []) bs) e
 
 -- what stands after the blanks in front

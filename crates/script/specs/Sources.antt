@@ -1,5 +1,5 @@
 -- Where a line ends.
-use Rattle.std.specs.Prelude.{◌≡◌, ℕ, ◌<◌, cond, List, [], ◌∷◌, length, MatchOption, ◌==◌}
+use Rattle.std.specs.Prelude.{◌≡◌, ℕ, ◌<◌, cond, List, [], ◌∷◌, length, take, MatchOption, ◌==◌}
 use Rattle.script.specs.declared.buffer.LineBuffer.{LineBuffer}
 
 -- the bytes before the first newline, or all
@@ -20,4 +20,4 @@ without_return (b ∷ c ∷ bs) = b ∷ without_return (c ∷ bs)
 
 -- the line is in the buffer, or is too long for it
 abbrev pub Buffered : LineBuffer → List ℕ → Type 0
-Buffered l bs = MatchOption l.line (4096 < length bs) (λ v. v.items ≡ bs)
+Buffered l bs = MatchOption l.len (4096 < length bs) (λ n. take n l.bytes ≡ bs)

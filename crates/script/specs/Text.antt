@@ -1,6 +1,7 @@
 -- The words of a line, and the numbers among them.
 use Rattle.std.specs.Prelude.{ℕ, ◌+◌, ◌-◌, ◌*◌, ◌^◌, min, Bool, false, cond, ◌||◌, List, [], ◌∷◌, ◌++◌, Some, None, Option, ◌==◌}
 use Rattle.std.specs.Str.{all_ascii_digits}
+use Rattle.script.specs.declared.words.Words.{Words}
 
 -- a space or a tab
 abbrev pub is_blank : ℕ → Bool
@@ -19,6 +20,10 @@ words_after w (b ∷ bs) = cond (is_blank b) (ended w (words_after [] bs)) (word
 -- the words of a text: what stands between blanks
 abbrev pub words_of : List ℕ → List (List ℕ)
 words_of bs = words_after [] bs
+
+-- the words that are still to come
+abbrev pub to_come : Words → List (List ℕ)
+to_come w = words_of w.rest.now
 
 -- one or more decimal digits
 abbrev pub is_number : List ℕ → Bool

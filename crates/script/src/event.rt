@@ -2,6 +2,7 @@
 ghost use Rattle.std.specs.Prelude.{Some};
 ghost use Rattle.script.specs.Events.{printed, spaced};
 
+use super::digits::write_number;
 use std::fmt;
 
 // Why a call is sent away, or a user told no, is the number that `World` gives: an enum would be made from it only to be printed as it.
@@ -31,16 +32,44 @@ impl fmt::Display for Event {
     fn fmt<W: fmt::Write>(&self, f: &mut fmt::Formatter<W>) -> fmt::Result {
         match *self {
             Event::Taken => f.write_str("taken"),
-            Event::Away(why) => write!(f, "away {why}"),
-            Event::Done(user) => write!(f, "{user} done"),
-            Event::No(user, why) => write!(f, "{user} no {why}"),
-            Event::Raise(x) => write!(f, "raise {x}"),
-            Event::Good(x) => write!(f, "good {x}"),
-            Event::Level(x, level) => write!(f, "level {x} {level}"),
-            Event::Lower(x) => write!(f, "lower {x}"),
-            Event::Drawn(sum) => write!(f, "{sum}"),
+            Event::Away(why) => {
+                f.write_str("away ")?;
+                write_number(f, u64::from(why))
+            }
+            Event::Done(user) => {
+                write_number(f, u64::from(user))?;
+                f.write_str(" done")
+            }
+            Event::No(user, why) => {
+                write_number(f, u64::from(user))?;
+                f.write_str(" no ")?;
+                write_number(f, u64::from(why))
+            }
+            Event::Raise(x) => {
+                f.write_str("raise ")?;
+                write_number(f, u64::from(x))
+            }
+            Event::Good(x) => {
+                f.write_str("good ")?;
+                write_number(f, u64::from(x))
+            }
+            Event::Level(x, level) => {
+                f.write_str("level ")?;
+                write_number(f, u64::from(x))?;
+                f.write_str(" ")?;
+                write_number(f, u64::from(level))
+            }
+            Event::Lower(x) => {
+                f.write_str("lower ")?;
+                write_number(f, u64::from(x))
+            }
+            Event::Drawn(sum) => write_number(f, sum),
             Event::NoPlan => f.write_str("no plan"),
-            Event::NoLine(number) => write!(f, "line {number}?"),
+            Event::NoLine(number) => {
+                f.write_str("line ")?;
+                write_number(f, number)?;
+                f.write_str("?")
+            }
         }
     }
 }
@@ -54,9 +83,10 @@ impl fmt::Display for Spaced<'_> {
 
     fn fmt<W: fmt::Write>(&self, f: &mut fmt::Formatter<W>) -> fmt::Result {
         if let [first, rest @ ..] = self.0 {
-            write!(f, "{first}")?;
+            write_number(f, u64::from(*first))?;
             for level in rest {
-                write!(f, " {level}")?;
+                f.write_str(" ")?;
+                write_number(f, u64::from(*level))?;
             }
         }
         Ok(())

@@ -2,7 +2,9 @@
 #![tactic(auto)]
 
 pub mod buffer;
+mod digits;
 pub mod event;
+mod filling;
 pub mod line;
 pub mod lines;
 mod needs;

@@ -2,6 +2,7 @@
 ghost use Rattle.std.specs.Prelude.{◌≡◌, ℕ, ◌<◌, List, [], ◌∷◌, ◌++◌, length, Some, None, MatchResult};
 ghost use Rattle.script.specs.Lines.{Written, follow, needs};
 ghost use Rattle.script.specs.Steps.{Gathered, Levelled, Needed};
+ghost use Rattle.script.specs.Text.{to_come};
 
 use super::line::NoLine;
 use super::spread::Spread;
@@ -23,7 +24,7 @@ fn plan_need(on: u32, levels: Option<Spread<{ Level::TOP }>>, most: u32) -> Opti
 
 // `Y from A B .. most M`, as a need if a plan can hold it.
 fn need(words: &mut Words<'_>) -> Result<Option<PlanNeed>, NoLine>
-    ensures { MatchResult result (λ o. (w : Written) × Needed o w × (needs words.old ≡ follow w words.new) × (length words.new < length words.old)) (λ _. needs words.old ≡ None) }
+    ensures { MatchResult result (λ o. (w : Written) × Needed o w × (needs (to_come words.old) ≡ follow w (to_come words.new)) × (length (to_come words.new) < length (to_come words.old))) (λ _. needs (to_come words.old) ≡ None) }
 {
     let on = words.number()?;
     words.keyword(b"from")?;
@@ -34,23 +35,29 @@ fn need(words: &mut Words<'_>) -> Result<Option<PlanNeed>, NoLine>
 }
 
 // One need more, if a plan can hold it.
-fn with_need(part: Option<PlanPart>, need: Option<PlanNeed>) -> Option<PlanPart>
-    ensures { (ws : List Written) (w : Written) → Gathered part ws → Needed need w → Gathered result (ws ++ w ∷ []) }
+fn push_need(part: &mut Option<PlanPart>, need: Option<PlanNeed>)
+    ensures { (ws : List Written) (w : Written) → Gathered part.old ws → Needed need w → Gathered part.new (ws ++ w ∷ []) }
 {
-    let mut part = part?;
-    let need = need?;
-    part.add(need).ok()?;
-    Some(part)
+    let Some(whole) = &mut *part else {
+        return;
+    };
+    let Some(need) = need else {
+        *part = None;
+        return;
+    };
+    if whole.add(need).is_err() {
+        *part = None;
+    }
 }
 
 // The needs up to the end of a line, if a plan can hold them.
 pub(crate) fn all_needs(words: &mut Words<'_>) -> Result<Option<PlanPart>, NoLine>
-    ensures { MatchResult result (λ p. (ws : List Written) × Gathered p ws × (needs words.old ≡ Some ws)) (λ _. needs words.old ≡ None) }
+    ensures { MatchResult result (λ p. (ws : List Written) × Gathered p ws × (needs (to_come words.old) ≡ Some ws)) (λ _. needs (to_come words.old) ≡ None) }
 {
     let mut part = Some(PlanPart::none());
     loop {
         let one = need(words)?;
-        part = with_need(part, one);
+        push_need(&mut part, one);
         match words.next() {
             None => return Ok(part),
             Some(b"and") => {}

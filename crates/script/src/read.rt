@@ -1,6 +1,6 @@
 // Lines are read word by word.
 ghost use Rattle.std.specs.Prelude.{◌≡◌, ℕ, List, [], ◌∷◌, Option, Result};
-ghost use Rattle.script.specs.Text.{words_of};
+ghost use Rattle.script.specs.Text.{to_come, words_of};
 ghost use Rattle.script.specs.Forms.{ReadsBack};
 ghost use Rattle.script.specs.Lines.{Said, Written, draws_line, heard, line_of, needs_line, only, part_line, part_with, said_of, slow_line, user_line, with_number};
 ghost use Rattle.script.specs.Steps.{Drew, Gathered, only_if};
@@ -45,8 +45,9 @@ pub fn lines_read_back() -> u8
 }
 
 // A line that has no word more.
+#[inline(always)]
 fn alone(line: Line, mut words: Words<'_>) -> Result<Line, NoLine>
-    ensures { heard result ≡ only (said_of line) words.entry }
+    ensures { heard result ≡ only (said_of line) (to_come words.entry) }
 {
     match words.next() {
         None => Ok(line),
@@ -55,25 +56,37 @@ fn alone(line: Line, mut words: Words<'_>) -> Result<Line, NoLine>
 }
 
 // A number, and the line that `say` makes of it.
+#[inline(always)]
 fn one_number<F: FnOnce(u32) -> Line>(say: F, mut words: Words<'_>) -> Result<Line, NoLine>
     requires { F.IsAlwaysCallable say }
-    ensures { (f : ℕ → Said) → ((n : ℕ) (l : Line) → F.post say n l → said_of l ≡ f n) → heard result ≡ with_number (λ n. only (f n)) words.entry }
+    ensures { (f : ℕ → Said) → ((n : ℕ) (l : Line) → F.post say n l → said_of l ≡ f n) → heard result ≡ with_number (λ n. only (f n)) (to_come words.entry) }
 {
     let n = words.number()?;
-    alone(say(n), words)
+    if words.next().is_some() {
+        return Err(NoLine::ExtraWord);
+    }
+    Ok(say(n))
 }
 
 // Two numbers, and the line that `say` makes of them, if it makes one.
+#[inline(always)]
 fn two_numbers<F: FnOnce(u32, u32) -> Result<Line, NoLine>>(
     say: F,
     mut words: Words<'_>,
 ) -> Result<Line, NoLine>
     requires { F.IsAlwaysCallable say }
-    ensures { (f : ℕ → ℕ → List (List ℕ) → Option Said) → ((m n : ℕ) (r : Result Line NoLine) (ws : List (List ℕ)) → F.post say m n r → only_if (heard r) ws ≡ f m n ws) → heard result ≡ with_number (λ m. with_number (f m)) words.entry }
+    ensures { (f : ℕ → ℕ → List (List ℕ) → Option Said) → ((m n : ℕ) (r : Result Line NoLine) (ws : List (List ℕ)) → F.post say m n r → only_if (heard r) ws ≡ f m n ws) → heard result ≡ with_number (λ m. with_number (f m)) (to_come words.entry) }
 {
     let m = words.number()?;
     let n = words.number()?;
-    alone(say(m, n)?, words)
+    let said = say(m, n);
+    if said.is_err() {
+        return said;
+    }
+    if words.next().is_some() {
+        return Err(NoLine::ExtraWord);
+    }
+    said
 }
 
 // Part x is good when asked for the nth time.
@@ -89,7 +102,7 @@ fn slow(x: u32, n: u32) -> Result<Line, NoLine>
 
 // What a user does: `give`, or `want X L`.
 fn by_user(user: u32, mut words: Words<'_>) -> Result<Line, NoLine>
-    ensures { heard result ≡ user_line user words.entry }
+    ensures { heard result ≡ user_line user (to_come words.entry) }
 {
     let word = words.next().ok_or(NoLine::MissingWord)?;
     match word {
@@ -101,7 +114,7 @@ fn by_user(user: u32, mut words: Words<'_>) -> Result<Line, NoLine>
 
 // A part that draws nothing and needs nothing, or what follows `draws` or `needs`.
 fn part(mut words: Words<'_>) -> Result<Line, NoLine>
-    ensures { heard result ≡ with_number part_line words.entry }
+    ensures { heard result ≡ with_number part_line (to_come words.entry) }
 {
     let x = words.number()?;
     match words.next() {
@@ -114,7 +127,7 @@ fn part(mut words: Words<'_>) -> Result<Line, NoLine>
 
 // What part x draws, and what it needs.
 fn with_draws(x: u32, mut words: Words<'_>) -> Result<Line, NoLine>
-    ensures { heard result ≡ with_number (λ d. draws_line x (d ∷ [])) words.entry }
+    ensures { heard result ≡ with_number (λ d. draws_line x (d ∷ [])) (to_come words.entry) }
 {
     let draws = Spread::read(&mut words, b"needs")?;
     match words.next() {
@@ -125,7 +138,7 @@ fn with_draws(x: u32, mut words: Words<'_>) -> Result<Line, NoLine>
 
 // What part x needs, after what it draws.
 fn with_needs(x: u32, draws: Option<Draws>, mut words: Words<'_>) -> Result<Line, NoLine>
-    ensures { (ds : List ℕ) → Drew draws ds → heard result ≡ needs_line x ds words.entry }
+    ensures { (ds : List ℕ) → Drew draws ds → heard result ≡ needs_line x ds (to_come words.entry) }
 {
     let needs = all_needs(&mut words)?;
     Ok(whole(x, draws, needs))

@@ -1,5 +1,5 @@
 // Whole lines, put one after another.
-ghost use Rattle.std.specs.Prelude.{ℕ, List, [], ◌∷◌, ◌++◌, IfSome};
+ghost use Rattle.std.specs.Prelude.{◌≡◌, ℕ, List, [], ◌∷◌, ◌++◌, IfSome, OnOk};
 ghost use Rattle.script.specs.Events.{printed, spaced};
 
 use super::event::{Event, Say, Spaced};
@@ -25,10 +25,18 @@ fn put_line<S: Sink, D: fmt::Display + Drop>(sink: &mut S, value: D)
     ensures { IfSome (D.output value) (λ text. S.puts sink.old (text ++ 10 ∷ []) sink.new) }
 {
     let mut line = ArrayString::<256>::new();
-    match line.writeln(value) {
+    match write_line(&mut line, value) {
         Ok(()) => sink.put(line.as_str().as_bytes()),
         Err(_) => sink.lose(),
     }
+}
+
+// A value and the end of its line, behind what the line has. (The library's `writeln` would copy that one byte as a text of any length.)
+fn write_line<D: fmt::Display + Drop>(line: &mut ArrayString<256>, value: D) -> fmt::Result
+    ensures { IfSome (D.output value) (λ text. OnOk result (line.new.bytes ≡ line.old.bytes ++ (text ++ 10 ∷ []))) }
+{
+    line.write(value)?;
+    line.write_str("\n")
 }
 
 impl<S: Sink> Say for S {

@@ -1,7 +1,8 @@
 // Numbers for the levels from 1 on, as a line writes them: the last that is written holds for all that follow.
-ghost use Rattle.std.specs.Prelude.{◌≡◌, ℕ, List, [], ◌∷◌, ◌++◌, Some, None, MatchResult};
+ghost use Rattle.std.specs.Prelude.{◌≡◌, ℕ, List, [], ◌∷◌, ◌++◌, Some, None, MatchResult, if◌then◌else◌};
 ghost use Rattle.script.specs.Lines.{spread};
 ghost use Rattle.script.specs.Steps.{if_spread_fits, numbers_to};
+ghost use Rattle.script.specs.Text.{to_come};
 
 use super::line::NoLine;
 use super::numbers::decimal;
@@ -41,34 +42,33 @@ impl<const TOP: u32> Spread<TOP> {
         }
     }
 
-    // One more, which holds for all levels that follow; `None` where no plan can hold that.
-    fn with(mut self, n: u32) -> Option<Spread<TOP>>
-        ensures { result ≡ if_spread_fits TOP (self.entry ++ n ∷ []) }
+    // One more, which holds for all levels that follow; false where no plan can hold that. (A spread that is handed on with each number costs a copy.)
+    fn push(&mut self, n: u32) -> bool
+        ensures { (if result then Some self.new else None) ≡ if_spread_fits TOP (self.old ++ n ∷ []) }
     {
         if n > TOP || self.count >= MOST_LEVELS {
-            return None;
+            return false;
         }
         self.count += 1;
         let from = self.count;
         self.levels[from..].fill(n);
-        Some(self)
+        true
     }
 
     // One number or more, up to this word or the end of the line; `None` where no plan can hold them.
     pub(crate) fn read(words: &mut Words<'_>, until: &[u8]) -> Result<Option<Spread<TOP>>, NoLine>
-        ensures { MatchResult result (λ s. (ns : List ℕ) × (numbers_to until.now words.old ≡ Some (ns, words.new)) × (s ≡ if_spread_fits TOP ns)) (λ _. numbers_to until.now words.old ≡ None) }
+        ensures { MatchResult result (λ s. (ns : List ℕ) × (numbers_to until.now (to_come words.old) ≡ Some (ns, to_come words.new)) × (s ≡ if_spread_fits TOP ns)) (λ _. numbers_to until.now (to_come words.old) ≡ None) }
     {
         let first = words.number()?;
-        let mut read = Spread::new().with(first);
+        let mut spread = Spread::new();
+        let mut fits = spread.push(first);
         while let Some(word) = words.next_unless(until) {
             let n = decimal(word).ok_or(NoLine::NotANumber)?;
-            // Here nothing is inferred of what the closure gives: its clause says it.
-            let more = |spread: Spread<TOP>|
-                ensures { result ≡ if_spread_fits TOP (spread.entry ++ n ∷ []) }
-            { spread.with(n) };
-            read = read.and_then(more);
+            if fits {
+                fits = spread.push(n);
+            }
         }
-        Ok(read)
+        if fits { Ok(Some(spread)) } else { Ok(None) }
     }
 
     // The numbers of all levels; 0 for off.

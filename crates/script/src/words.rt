@@ -1,38 +1,32 @@
 // The words of a line: what stands between spaces and tabs.
-ghost use Rattle.std.specs.Prelude.{◌≡◌, ℕ, ◌≤◌, true, false, not, List, ◌∷◌, length, MatchOption, MatchResult};
-ghost use Rattle.std.specs.Iterator.{YieldsFirstRef, item_count};
+ghost use Rattle.std.specs.Prelude.{◌≡◌, ℕ, ◌<◌, ◌≤◌, true, false, not, List, ◌∷◌, length, OnSome, MatchOption, MatchResult, ⊤};
+ghost use Rattle.std.specs.Iterator.{MakesProgress, YieldsFirstRef, item_count};
 ghost use Rattle.std.specs.List.{prefix_len};
 ghost use Rattle.std.specs.Str.{bytes_eq};
 ghost use Rattle.script.specs.Steps.{Began, Lacks, Misses, Stops};
-ghost use Rattle.script.specs.Text.{is_blank, words_of};
+ghost use Rattle.script.specs.Text.{is_blank, to_come, words_of};
 
 use super::line::NoLine;
 use super::numbers::decimal;
-use std::marker::Model;
 
-// What has not been read yet: the words that are still to come.
-#[derive(Clone, Drop)]
+// What has not been read yet.
+#[derive(Clone, Copy)]
 pub struct Words<'a> {
-    rest: &'a [u8],
-}
-
-impl<'a> Model for Words<'a> {
-    ghost use Rattle.std.specs.Prelude.{ℕ, List};
-    ghost use Rattle.script.specs.Text.{words_of};
-
-    ghost Value = { List (List ℕ) };
-
-    ghost view = { λ w. words_of w.rest.now };
+    pub rest: &'a [u8],
 }
 
 impl<'a> Iterator for Words<'a> {
     type Item = &'a [u8];
 
-    ghost next_gives = { YieldsFirstRef (λ w. w) };
+    ghost next_gives = { YieldsFirstRef to_come };
 
-    ghost remaining = { item_count (λ w. w) };
+    ghost remaining = { item_count to_come };
 
-    fn next(&mut self) -> Option<&'a [u8]> {
+    fn next(&mut self) -> Option<&'a [u8]>
+        ensures steps { YieldsFirstRef to_come self.old result self.new }
+        ensures goes { MakesProgress (λ _. ⊤) (item_count to_come) self.old result self.new }
+        ensures shorter { OnSome result (length self.new.rest.now < length self.old.rest.now) }
+    {
         let (_, text) = self.rest.split_at(blanks_len(self.rest));
         let (word, rest) = text.split_at(word_len(text));
         self.rest = rest;
@@ -46,16 +40,16 @@ impl<'a> Iterator for Words<'a> {
 impl<'a> Words<'a> {
     // The words of a text.
     pub fn new(text: &'a [u8]) -> Words<'a>
-        ensures { result ≡ words_of text.now }
+        ensures { to_come result ≡ words_of text.now }
     {
         Words { rest: text }
     }
 
     // The next word, unless it is this one, which then stays.
     pub(crate) fn next_unless(&mut self, name: &[u8]) -> Option<&'a [u8]>
-        ensures { MatchOption result ((self.new ≡ self.old) × Stops name.now self.old) (λ w. (self.old ≡ w.now ∷ self.new) × (bytes_eq w.now name.now ≡ false)) }
+        ensures { MatchOption result ((self.new ≡ self.old) × Stops name.now (to_come self.old)) (λ w. (to_come self.old ≡ w.now ∷ to_come self.new) × (bytes_eq w.now name.now ≡ false)) }
     {
-        let mut ahead = Words { rest: self.rest };
+        let mut ahead = *self;
         let word = ahead.next()?;
         if word == name {
             return None;
@@ -65,16 +59,18 @@ impl<'a> Words<'a> {
     }
 
     // The number that comes next.
+    #[inline(always)]
     pub(crate) fn number(&mut self) -> Result<u32, NoLine>
-        ensures { MatchResult result (λ n. Began n self.old self.new) (λ _. Lacks self.old) }
+        ensures { MatchResult result (λ n. Began n (to_come self.old) (to_come self.new)) (λ _. Lacks (to_come self.old)) }
     {
         let word = self.next().ok_or(NoLine::MissingWord)?;
         decimal(word).ok_or(NoLine::NotANumber)
     }
 
     // Passes over this word.
+    #[inline(always)]
     pub(crate) fn keyword(&mut self, name: &[u8]) -> Result<(), NoLine>
-        ensures { MatchResult result (λ _. (w : List ℕ) × (self.old ≡ w ∷ self.new) × (bytes_eq w name.now ≡ true)) (λ _. Misses name.now self.old) }
+        ensures { MatchResult result (λ _. (w : List ℕ) × (to_come self.old ≡ w ∷ to_come self.new) × (bytes_eq w name.now ≡ true)) (λ _. Misses name.now (to_come self.old)) }
     {
         let word = self.next().ok_or(NoLine::MissingWord)?;
         if word == name {

@@ -11,24 +11,24 @@ unfolding called
 away (Want u x l) b n = rw (ne_eqb (why (Want u x l) b) 0 n)
 away (Give u) b n = rw (ne_eqb (why (Give u) b) 0 n)
 
-want_taken : (u x l : ℕ) (b : Board) → why (Want u x l) b ≡ 0 → with_wish u (Asked x l 0) b ≡ called (Want u x l) b
+pub want_taken : (u x l : ℕ) (b : Board) → why (Want u x l) b ≡ 0 → with_wish u (Asked x l 0) b ≡ called (Want u x l) b
 unfolding called
 want_taken u x l b e = rw (eq-eqb (why (Want u x l) b) 0 e)
 
-give_taken : (u : ℕ) (b : Board) → why (Give u) b ≡ 0 → with_wish u None' b ≡ called (Give u) b
+pub give_taken : (u : ℕ) (b : Board) → why (Give u) b ≡ 0 → with_wish u None' b ≡ called (Give u) b
 unfolding called
 give_taken u b e = rw (eq-eqb (why (Give u) b) 0 e)
 
-want_bounds : (u x l : ℕ) (b : Board) → why (Want u x l) b ≡ 0 → (u < 32) × (x < b.parts) × (1 ≤ l) × (l ≤ 15)
+pub want_bounds : (u x l : ℕ) (b : Board) → why (Want u x l) b ≡ 0 → (u < 32) × (x < b.parts) × (1 ≤ l) × (l ≤ 15)
 unfolding why
 want_bounds u x l b e = (grind (arith, nat_tests), grind (arith, nat_tests), grind (arith, nat_tests), grind (arith, nat_tests))
 
-give_bounds : (u : ℕ) (b : Board) → why (Give u) b ≡ 0 → u < 32
+pub give_bounds : (u : ℕ) (b : Board) → why (Give u) b ≡ 0 → u < 32
 unfolding why
 give_bounds u b e = grind (arith, nat_tests)
 
 -- the number that a call was answered by is that of the call which it is
-why_is : (c k : Call) (b : Board) (n : ℕ) → c ≡ k → n ≡ why c b → n ≡ 0 → why k b ≡ 0
+pub why_is : (c k : Call) (b : Board) (n : ℕ) → c ≡ k → n ≡ why c b → n ≡ 0 → why k b ≡ 0
 why_is c k b n e w z = ap (λ (d : Call). why d b) (sym e) ∙ sym w ∙ z
 
 -- what a call that was answered by 0 asks, and what it does

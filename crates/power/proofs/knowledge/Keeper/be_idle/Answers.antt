@@ -13,11 +13,11 @@ returns g c =
       | then-self-eq-COMES_DOWN_AFTER w ↦
           let r = w.settle.ensures in
           let b' = g.P.Parts.board w.settle.new.self.board.now in
-          worked_seen g.P.Parts.board _ w.settle.new.self.board.now None c.tick.new.self (search rules) (
-          worked_settled k c.tick.new.self b m c.requires.nobody (cc) _ w.if-self-eq-COMES_DOWN_AFTER.true r.only w.settle.new.self.sound r.low
-          (c.tick.ensures.mirrors b' (rw w.self-is (mirrors_only k _ b b' r.only m.mirrors refl refl refl w.settle.new.self.knows)))
+          worked_seen g.P.Parts.board _ w.settle.new.self.board.now None c.quiet_tick.new.self (search rules) (
+          worked_settled k c.quiet_tick.new.self b m c.requires.nobody (cc) _ w.if-self-eq-COMES_DOWN_AFTER.true r.only w.settle.new.self.sound r.low
+          (c.quiet_tick.ensures.mirrors b' (rw w.self-is (mirrors_only k _ b b' r.only m.mirrors refl refl refl w.settle.new.self.knows)))
           )
       | else-self-eq-COMES_DOWN_AFTER w ↦
-          worked_seen g.P.Parts.board _ c.args.b.now None c.tick.new.self w.b-is
-          (worked_idle k c.tick.new.self b m c.requires.nobody (cc) w.if-self-eq-COMES_DOWN_AFTER.false (c.tick.ensures.mirrors b (rw w.self-is m.mirrors)))
+          worked_seen g.P.Parts.board _ c.args.b.now None c.quiet_tick.new.self w.b-is
+          (worked_idle k c.quiet_tick.new.self b m c.requires.nobody (cc) w.if-self-eq-COMES_DOWN_AFTER.false (c.quiet_tick.ensures.mirrors b (rw w.self-is m.mirrors)))
     ]

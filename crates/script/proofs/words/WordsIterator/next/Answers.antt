@@ -9,14 +9,13 @@ returns-then-is_empty c =
     let a = c.split_at.ensures in
     let b = c.split_at-2.ensures in
     let empty = eqb-true (length c.split_at-2.result.0.now) 0 (sym c.is_empty.ensures ∙ c.if-is_empty.true) in
-    let none = no_word c.self.inside.rest.now c.split_at.result.1.now c.split_at-2.result.0.now c.split_at-2.result.1.now c.blanks_len.result c.word_len.result c.blanks_len.ensures.value a.back c.word_len.ensures.value b.front b.back (omega (arith, empty, b.front_len)) in
-    record { steps = (sym c.self.view_is ∙ none.0, none.1); goes = search rules }
+    let none = no_word c.args.self.now.rest.now c.split_at.result.1.now c.split_at-2.result.0.now c.split_at-2.result.1.now c.blanks_len.result c.word_len.result c.blanks_len.ensures.value a.back c.word_len.ensures.value b.front b.back (omega (arith, empty, b.front_len)) in
+    record { steps = none; goes = search rules; shorter = search rules }
 
 pub returns : goal.returns
 returns c =
     let a = c.split_at.ensures in
     let b = c.split_at-2.ensures in
     let some = eqb-false (length c.split_at-2.result.0.now) 0 (sym c.is_empty.ensures ∙ c.if-is_empty.false) in
-    let first = some_word c.self.inside.rest.now c.split_at.result.1.now c.split_at-2.result.0.now c.split_at-2.result.1.now c.blanks_len.result c.word_len.result c.blanks_len.ensures.value a.back c.word_len.ensures.value b.front b.back (omega (arith, some)) in
-    let steps = sym c.self.view_is ∙ first in
-    record { steps = steps; goes = record { on = λ _. (tt, tt, omega (arith, ap length steps)); keeps = search rules; rests = search rules } }
+    let first = some_word c.args.self.now.rest.now c.split_at.result.1.now c.split_at-2.result.0.now c.split_at-2.result.1.now c.blanks_len.result c.word_len.result c.blanks_len.ensures.value a.back c.word_len.ensures.value b.front b.back (omega (arith, some)) in
+    record { steps = first; goes = record { on = λ _. (tt, tt, omega (arith, ap length first)); keeps = search rules; rests = search rules }; shorter = search rules }
