@@ -1,6 +1,6 @@
 // The words of a line: what stands between spaces and tabs.
-ghost use Rattle.std.specs.Prelude.{◌≡◌, ℕ, ◌<◌, ◌≤◌, true, false, not, List, ◌∷◌, length, OnSome, MatchOption, MatchResult, ⊤};
-ghost use Rattle.std.specs.Iterator.{MakesProgress, YieldsFirstRef, item_count};
+ghost use Rattle.std.specs.Prelude.{◌≡◌, ℕ, ◌<◌, ◌≤◌, true, false, not, List, ◌∷◌, length, OnSome, MatchOption, MatchResult};
+ghost use Rattle.std.specs.Iterator.{YieldsFirstRef, item_count};
 ghost use Rattle.std.specs.List.{prefix_len};
 ghost use Rattle.std.specs.Str.{bytes_eq};
 ghost use Rattle.script.specs.Steps.{Began, Lacks, Misses, Stops};
@@ -22,18 +22,8 @@ impl<'a> Iterator for Words<'a> {
 
     ghost remaining = { item_count to_come };
 
-    fn next(&mut self) -> Option<&'a [u8]>
-        ensures steps { YieldsFirstRef to_come self.old result self.new }
-        ensures goes { MakesProgress (λ _. ⊤) (item_count to_come) self.old result self.new }
-        ensures shorter { OnSome result (length self.new.rest.now < length self.old.rest.now) }
-    {
-        let (_, text) = self.rest.split_at(blanks_len(self.rest));
-        let (word, rest) = text.split_at(word_len(text));
-        self.rest = rest;
-        if word.is_empty() {
-            return None;
-        }
-        Some(word)
+    fn next(&mut self) -> Option<&'a [u8]> {
+        Words::next(self)
     }
 }
 
@@ -43,6 +33,20 @@ impl<'a> Words<'a> {
         ensures { to_come result ≡ words_of text.now }
     {
         Words { rest: text }
+    }
+
+    // The next word. The trait's `next` is this, without the last clause: a loop proves its end by the trait's own.
+    pub fn next(&mut self) -> Option<&'a [u8]>
+        ensures steps { YieldsFirstRef to_come self.old result self.new }
+        ensures shorter { OnSome result (length self.new.rest.now < length self.old.rest.now) }
+    {
+        let (_, text) = self.rest.split_at(blanks_len(self.rest));
+        let (word, rest) = text.split_at(word_len(text));
+        self.rest = rest;
+        if word.is_empty() {
+            return None;
+        }
+        Some(word)
     }
 
     // The next word, unless it is this one, which then stays.
