@@ -5,7 +5,7 @@ ghost use Rattle.std.specs.Fmt.{WritesOnOk, decimal};
 use std::fmt::Formatter;
 use std::{fmt, str};
 
-// The digits of a number, whatever options the formatter has.
+// The digits of a number, whatever options the formatter has. What is taken unchecked is ASCII digits, hence UTF-8: that is proved.
 #[inline(always)]
 pub(crate) fn write_number<W: fmt::Write>(f: &mut Formatter<W>, n: u64) -> fmt::Result
     ensures { WritesOnOk W.write_str_gives f.old result (decimal n) f.new }

@@ -42,10 +42,10 @@ impl<'a> Words<'a> {
     {
         let (_, text) = self.rest.split_at(blanks_len(self.rest));
         let (word, rest) = text.split_at(word_len(text));
-        self.rest = rest;
         if word.is_empty() {
             return None;
         }
+        self.rest = rest;
         Some(word)
     }
 

@@ -1,12 +1,14 @@
-use Rattle.std.proofs.Common.{Some, None, ap, sym, ◌∙◌, arith, rules}
+use Rattle.std.proofs.Common.{Some, None, ap, sym, ◌∙◌, ◌≡◌, arith, rules}
 use Rattle.std.specs.Option.{option_copied}
+use Rattle.power.specs.NotDone.{told_number}
 use Rattle.power.specs.declared.Answer.TheVariants.{Done, No}
 use Rattle.power.proofs.Pursuing.{pursued_five, pursued_spent, pursued_done, pursued_stuck, pursued_seen}
 use Rattle.power.proofs.knowledge.Keeper.pursue.Goals as goal
 
 pub returns-in-Err-clause-pursued : goal.returns-in-Err-clause-pursued
 returns-in-Err-clause-pursued g c =
-    rw (c.into.ensures, c.from.ensures) (pursued_five (g.P.Parts.board c.args.b.now) c.take.new.self.aims c.args.r.part.n c.args.r.level.n c.in-Err.ensures.aims)
+    let five : c.into.result ≡ 5 = omega (arith, c.into.ensures, ap told_number c.from.ensures) in
+    rw five (pursued_five (g.P.Parts.board c.args.b.now) c.take.new.self.aims c.args.r.part.n c.args.r.level.n c.in-Err.ensures.aims)
 
 pub returns-in-Ok-clause-pursued : goal.returns-in-Ok-clause-pursued
 returns-in-Ok-clause-pursued g c =

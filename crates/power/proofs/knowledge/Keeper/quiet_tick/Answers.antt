@@ -1,4 +1,4 @@
-use Rattle.std.proofs.Common.{ℕ, ◌+◌, cond, ltb, refl, ap, ◌∙◌}
+use Rattle.std.proofs.Common.{◌+◌, cond, ltb, refl, ap, ◌∙◌}
 use Rattle.power.proofs.Said.{nobody_asked}
 use Rattle.power.proofs.Quiet.{quiet_none}
 use Rattle.power.proofs.KeptTicks.{mirrors_ticked}

@@ -9,8 +9,8 @@ returns-then-is_empty c =
     let a = c.split_at.ensures in
     let b = c.split_at-2.ensures in
     let empty = eqb-true (length c.split_at-2.result.0.now) 0 (sym c.is_empty.ensures ∙ c.if-is_empty.true) in
-    let none = no_word c.args.self.now.rest.now c.split_at.result.1.now c.split_at-2.result.0.now c.split_at-2.result.1.now c.blanks_len.result c.word_len.result c.blanks_len.ensures.value a.back c.word_len.ensures.value b.front b.back (omega (arith, empty, b.front_len)) in
-    record { steps = none; shorter = search rules }
+    let (none, _) = no_word c.args.self.now.rest.now c.split_at.result.1.now c.split_at-2.result.0.now c.split_at-2.result.1.now c.blanks_len.result c.word_len.result c.blanks_len.ensures.value a.back c.word_len.ensures.value b.front b.back (omega (arith, empty, b.front_len)) in
+    record { steps = (none, none); shorter = search rules }
 
 pub returns : goal.returns
 returns c =
