@@ -35,6 +35,18 @@ impl<'s, 'a, 'b, L: Lines, S: Say> Stage<'s, 'a, 'b, L, S> {
         }
     }
 
+    // The least for what is granted. There always is one: what was granted can be.
+    fn say_least(&mut self)
+        ensures { (self.new.sim ≡ self.old.sim) × (self.new.ticks ≡ self.old.ticks) }
+    {
+        match self.sim.least_granted() {
+            Ok(levels) => self
+                .session
+                .say_levels(&levels.of[..self.sim.plan.parts as usize]),
+            Err(_) => self.session.unclear(),
+        }
+    }
+
     // What a line of the script calls for now, if anything.
     fn heed(&mut self, line: Line) -> Option<Next>
         ensures board { board_of self.new.sim ≡ board_of self.old.sim }
@@ -56,13 +68,7 @@ impl<'s, 'a, 'b, L: Lines, S: Say> Stage<'s, 'a, 'b, L, S> {
             }
             Line::Bad(x) if x < self.sim.parts() => self.sim.bad(x),
             Line::Slow(x, n) if x < self.sim.parts() => self.sim.slow(x, n),
-            // There always is a least: what was granted can be.
-            Line::Least => match self.sim.least_granted() {
-                Ok(levels) => self
-                    .session
-                    .say_levels(&levels.of[..self.sim.plan.parts as usize]),
-                Err(_) => self.session.unclear(),
-            },
+            Line::Least => self.say_least(),
             Line::Drawn => self.session.say(Event::Drawn(self.sim.drawn())),
             _ => self.session.unclear(),
         }

@@ -36,6 +36,7 @@ impl<'a> Words<'a> {
     }
 
     // The next word. The trait's `next` is this, without the last clause: a loop proves its end by the trait's own.
+    #[inline(always)]
     pub fn next(&mut self) -> Option<&'a [u8]>
         ensures steps { YieldsFirstRef to_come self.old result self.new }
         ensures shorter { OnSome result (length self.new.rest.now < length self.old.rest.now) }
